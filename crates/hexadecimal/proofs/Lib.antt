@@ -1,0 +1,5 @@
+mod Signs
+mod Agreed
+mod Steps
+mod Texts
+pub mod FirstLines

@@ -1,0 +1,4 @@
+pub mod Nexts
+pub mod Spelt
+pub mod Contents
+pub mod Rows

@@ -1,0 +1,4 @@
+pub mod Presence
+pub mod Message
+pub mod Messages
+pub mod Spelling

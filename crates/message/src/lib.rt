@@ -1,0 +1,7 @@
+// Messages of the sync protocol, read from bytes without a copy.
+pub mod laws;
+pub mod message;
+pub mod messages;
+pub mod presence;
+#[cfg(test)]
+mod tests;

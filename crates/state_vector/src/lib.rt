@@ -1,0 +1,2 @@
+// Vectors: how far each client has come.
+pub mod vector;
