@@ -76,7 +76,7 @@ module _ {X : Type 0} (test : X → Result (Unit {0}) WireFault) (r : List ℕ �
   passes (Ok tt) x y s t e = let q = ok-is e in (q .0, q .1, refl)
   passes (Err f) x y s t e = absurd (never e)
 
-  tested : (s : List ℕ) (x : X) (rest : List ℕ) (v : Reading X) → r s ≡ v → thence v (λ y l. passed (test y) y l) ≡ Ok (x, rest) → (r s ≡ Ok (x, rest)) × (test x ≡ Ok tt)
+  pub tested : (s : List ℕ) (x : X) (rest : List ℕ) (v : Reading X) → r s ≡ v → thence v (λ y l. passed (test y) y l) ≡ Ok (x, rest) → (r s ≡ Ok (x, rest)) × (test x ≡ Ok tt)
   tested s x rest (Ok p) e h =
       let q = passes (test (p .0)) (p .0) x (p .1) rest h in
       (e ∙ ap (λ z. Ok (z, p .1)) (q .0) ∙ ap (λ l. Ok (x, l)) (q .1), ap test (sym (q .0)) ∙ q .2)
@@ -143,7 +143,7 @@ exact-buffer = exact-as (exact-thence (varUint (2 ^ 32 - 1)) part (exact-number 
     back contents bs (size, e, h) = (length contents, size, contents, e, h, (refl, refl))
 
 -- a test that passes, and what it says
-test-passes : (f : WireFault) (b : Bool) → _≡_ {A = Result (Unit {0}) WireFault} (cond b (Ok tt) (Err f)) (Ok tt) → b ≡ true
+pub test-passes : (f : WireFault) (b : Bool) → _≡_ {A = Result (Unit {0}) WireFault} (cond b (Ok tt) (Err f)) (Ok tt) → b ≡ true
 test-passes f true e = refl
 test-passes f false e = absurd (never e)
 
@@ -167,7 +167,7 @@ exact-counted {X} width one One h = exact-as (exact-thence (countIn width) (entr
     back xs bs (a, b, e, c, r) = (length xs, a, b, e, c, (r, refl))
 
 -- both tests of a presence text
-both : (a b : Bool) → _≡_ {A = Result (Unit {0}) WireFault} (cond a (cond b (Ok tt) (Err TextTooLong)) (Err UnexpectedValue)) (Ok tt) → (a ≡ true) × (b ≡ true)
+pub both : (a b : Bool) → _≡_ {A = Result (Unit {0}) WireFault} (cond a (cond b (Ok tt) (Err TextTooLong)) (Err UnexpectedValue)) (Ok tt) → (a ≡ true) × (b ≡ true)
 both true b e = (refl, test-passes TextTooLong b e)
 both false b e = absurd (never e)
 

@@ -5,3 +5,10 @@ pub mod Utf8s
 pub mod Utf8Steps
 pub mod Walks
 pub mod Exacts
+pub mod Runs
+pub mod Rows
+pub mod Fillings
+pub mod Shortest
+pub mod Backs
+pub mod Sendings
+pub mod Counted

@@ -5,3 +5,7 @@ pub mod Utf8
 pub mod Fields
 pub mod Entries
 pub mod Spelling
+pub mod Sink
+pub mod TwoSinks
+pub mod Writing
+pub mod ReadBack

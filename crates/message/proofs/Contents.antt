@@ -18,7 +18,7 @@ use Rattle.encoding.specs.Spelling.{Exactly, NumberIs, ClientIs, PresenceTextIs
 use Rattle.encoding.specs.VarUint.{varUint}
 use Rattle.encoding.proofs.Exacts.{Then, never, exact-thence, exact-named, exact-as, exact-number, exact-client-id, exact-presence-text, exact-counted}
 use Rattle.state_vector.specs.Spelling.{VectorIs}
-use Rattle.state_vector.specs.Vector.{vector}
+use Rattle.state_vector.specs.Vector.{vectorEntries}
 use Rattle.state_vector.proofs.Spelt.{exact-vector}
 use Rattle.message.specs.Message.{Said, step1, step2, update, awareness, denied, granted, query, custom, message, contents}
 use Rattle.message.specs.Messages.{Next, whole, refused, cut, next, found, judged}
@@ -81,7 +81,7 @@ module _ {X : Type 0} (r : List ℕ → Reading X) (Is : X → List ℕ → Type
   held-passes part (x, bs, rest, e, is) = ap (λ l. verdict (r l)) e ∙ ap verdict (h .spelt-is-taken x bs rest is)
 
 holds : (m : Said) → contents m ≡ Ok tt → Holds m
-holds (step1 part) e = held vector VectorIs exact-vector part e
+holds (step1 part) e = held vectorEntries VectorIs exact-vector part e
 holds (awareness part) e = held presence PresenceIs exact-presence part e
 holds (step2 part) e = tt
 holds (update part) e = tt
@@ -91,7 +91,7 @@ holds query e = tt
 holds (custom tag part) e = tt
 
 passes : (m : Said) → Holds m → contents m ≡ Ok tt
-passes (step1 part) h = held-passes vector VectorIs exact-vector part h
+passes (step1 part) h = held-passes vectorEntries VectorIs exact-vector part h
 passes (awareness part) h = held-passes presence PresenceIs exact-presence part h
 passes (step2 part) h = refl
 passes (update part) h = refl

@@ -21,7 +21,7 @@ use Rattle.encoding.specs.Entries.{verdict}
 use Rattle.encoding.specs.Fields.{buffer, text}
 use Rattle.encoding.specs.Reading.{Reading, thence, named}
 use Rattle.encoding.specs.VarUint.{varUint}
-use Rattle.state_vector.specs.Vector.{vector}
+use Rattle.state_vector.specs.Vector.{vectorEntries}
 use Rattle.message.specs.declared.message.Message.{Message}
 use Rattle.message.specs.declared.message.Message.the-variants.{SyncStep1, SyncStep2, Update, Awareness, AuthDenied, AuthGranted, AwarenessQuery, Custom}
 use Rattle.message.specs.Presence.{presence}
@@ -78,7 +78,7 @@ message s = thence (byteWide s) body
 
 -- whether what a message's buffer has to hold is there: a vector in step 1, a presence update in awareness
 abbrev pub contents : Said → Result (Unit {0}) WireFault
-contents (step1 part) = verdict (vector part)
+contents (step1 part) = verdict (vectorEntries part)
 contents (awareness part) = verdict (presence part)
 contents (step2 part) = Ok tt
 contents (update part) = Ok tt

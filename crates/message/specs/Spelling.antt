@@ -13,7 +13,7 @@ use lib.Chars.{codes}
 use Rattle.encoding.specs.Spelling.{Exactly, NumberIs, BufferIs, TextIs, ClientIs, PresenceTextIs, CountedIs}
 use Rattle.state_vector.specs.declared.vector.VectorEntry.{VectorEntry}
 use Rattle.state_vector.specs.Spelling.{VectorIs}
-use Rattle.state_vector.specs.Vector.{vector}
+use Rattle.state_vector.specs.Vector.{vectorEntries}
 use Rattle.message.specs.Message.{Said, step1, step2, update, awareness, denied, granted, query, custom, message}
 use Rattle.message.specs.Messages.{Next, whole, next}
 use Rattle.message.specs.Presence.{State, null, live, Entry, presence}
@@ -70,7 +70,7 @@ pub record Messages-are-as-spelt : Type 0 where
   -- a message without what its buffer holds
   pub framed : Exactly message MessageIs
   -- what a step 1 buffer holds
-  pub vectors : Exactly vector VectorIs
+  pub vectors : Exactly vectorEntries VectorIs
   -- what an awareness buffer holds
   pub presences : Exactly presence PresenceIs
   -- a message that is taken is spelt by the first bytes, and its buffer holds what it has to

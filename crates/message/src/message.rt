@@ -29,6 +29,9 @@ pub const MSG_SYNC_UPDATE: u8 = 2;
 // The flag of an auth message that denies; every other flag grants.
 pub const PERMISSION_DENIED: u8 = 0;
 
+// The flag that is written where access is granted.
+pub const PERMISSION_GRANTED: u8 = 1;
+
 // A message, with its payload, reason or data as a part of the received bytes.
 #[derive(Clone, Copy, Debug)]
 pub enum Message<'a> {

@@ -1,1 +1,10 @@
+pub mod Entering
+pub mod Keys
+pub mod Lookups
+pub mod Offering
+pub mod Rows
+pub mod Shifts
+pub mod Sizes
+pub mod Vectors
+pub mod VectorsOut
 pub mod Spelt

@@ -9,7 +9,7 @@ use Rattle.encoding.specs.VarUint.{varUint}
 use Rattle.encoding.proofs.Exacts.{Then, exact-thence, exact-named, exact-as, exact-number, exact-client-id, exact-counted}
 use Rattle.state_vector.specs.declared.vector.VectorEntry.{VectorEntry}
 use Rattle.state_vector.specs.Spelling.{VectorEntryIs, VectorIs}
-use Rattle.state_vector.specs.Vector.{vectorEntry, vector}
+use Rattle.state_vector.specs.Vector.{vectorEntry, vectorEntries}
 
 abbrev made : ℕ → ℕ → VectorEntry
 made id n = record { client = id; clock = n }
@@ -23,5 +23,5 @@ exact-vector-entry = exact-as (exact-thence clientIdIn (λ id s. named (made id)
     back : (e : VectorEntry) (bs : List ℕ) → VectorEntryIs e bs → Then ClientIs (λ id y b. (n : ℕ) × (made id n ≡ y) × NumberIs (2 ^ 32 - 1) n b) e bs
     back e bs (a, b, i, h, k) = (e .client, a, b, i, h, (e .clock, refl, k))
 
-pub exact-vector : Exactly vector VectorIs
+pub exact-vector : Exactly vectorEntries VectorIs
 exact-vector = exact-counted 32 vectorEntry VectorEntryIs exact-vector-entry

@@ -1,2 +1,4 @@
+pub mod Tables
 pub mod Vector
+pub mod VectorOut
 pub mod Spelling
