@@ -73,9 +73,10 @@ pub fn write_entries_buf<E: Entry, S: Sink>(
     ensures { λ r. ⌜ Writes (S·Sink .room) (S·Sink .step) (now (sink .entry)) (bufferOut (countedOut (E·Entry .out) (now (entries .entry)))) (told r) (now (sink .exit)) ⌝ }
 {
     let len = count_entries(entries)?;
+    let room = sink.left();
     let mut counter = Counter {
         count: len,
-        limit: sink.left(),
+        limit: room,
     };
     write_var_u64(&mut counter, len as u64)?;
     write_var_u64(sink, len as u64)?;

@@ -28,7 +28,7 @@ use Rattle.message.proofs.Nexts.{next-of}
 use Rattle.message.proofs.Spelt.{exact-message}
 
 -- what a text shows is what its state says
-shown : (bs : List ℕ) → Shows bs (stateOf bs)
+pub shown : (bs : List ℕ) → Shows bs (stateOf bs)
 shown bs = by (sameBytes bs (codes "null")) refl
   where
     by : (b : Bool) → sameBytes bs (codes "null") ≡ b → Shows bs (cond b null (live bs))
@@ -61,7 +61,7 @@ exact-presence-entry = exact-as (exact-thence clientIdIn (λ id s. thence (varUi
     back : (e : Entry) (bs : List ℕ) → PresenceEntryIs e bs → Then ClientIs Clocked e bs
     back e bs (a, b, c, text, i, h, k, t, s) = (e .client, a, b ++ c, i, h, (e .clock, b, c, refl, k, (text, ap (λ x. record { client = e .client; clock = e .clock; state = x }) (state-is text (e .state) s), t)))
 
-exact-presence : Exactly presence PresenceIs
+pub exact-presence : Exactly presence PresenceIs
 unfolding presence
 exact-presence = exact-counted 64 presenceEntry PresenceEntryIs exact-presence-entry
 

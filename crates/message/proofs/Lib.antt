@@ -5,3 +5,5 @@ pub mod Rows
 pub mod Keeping
 pub mod Sending
 pub mod Sound
+pub mod ReadsBack
+pub mod Again

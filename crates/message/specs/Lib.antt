@@ -6,3 +6,5 @@ pub mod Kept
 pub mod Owned
 pub mod Writing
 pub mod Drafts
+pub mod ReadBack
+pub mod Again

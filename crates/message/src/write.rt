@@ -1,10 +1,14 @@
 // Messages written from their parts: every message is counted before it is written.
 ghost use mathlib.Core.Path.{_≡_};
-ghost use mathlib.Core.List.{map};
+ghost use mathlib.Core.List.{List, map};
+ghost use Prim.Native.Nat.{ℕ};
 ghost use lib.ListN.{take};
+ghost use Rattle.std.specs.Vec.{made};
+ghost use Rattle.std.specs.declared.result.Result.the-variants.{Ok};
 ghost use Rattle.encoding.specs.Writing.{shortest, bufferOut, countedOut, Sent};
 ghost use Rattle.message.specs.Writing.{Told, step1, awareness, Sound, presenceEntryOut, ownEntry, led, asks, drafted, messageOut, Written};
 ghost use Rattle.message.specs.Drafts.{tells};
+ghost use Rattle.message.specs.ReadBack.{Reads-back};
 use crate::message::*;
 use crate::update::Presence;
 use crate::update::PresenceKeyed;
@@ -156,7 +160,8 @@ pub impl Outgoing for Draft<'_> as DraftOut {
 
 // A message into a buffer from a place on, and how many bytes it has: judged, then counted, and only then written.
 pub fn write_at<M: Outgoing>(m: &M, out: &mut [u8], at: usize) -> Result<usize, WriteFault>
-    ensures { λ r. ⌜ Written (now (out .entry)) at (messageOut (M·Outgoing .told (now (m .entry)))) r (now (out .exit)) ⌝ }
+    ensures written { λ r. ⌜ Written (now (out .entry)) at (messageOut (M·Outgoing .told (now (m .entry)))) r (now (out .exit)) ⌝ }
+    ensures back { λ _. ⌜ ((bs : List ℕ) → messageOut (M·Outgoing .told (now (m .entry))) ≡ Ok bs → Reads-back (M·Outgoing .told (now (m .entry))) bs) ⌝ }
 {
     m.check()?;
     let mut counter = Counter {
@@ -171,7 +176,8 @@ pub fn write_at<M: Outgoing>(m: &M, out: &mut [u8], at: usize) -> Result<usize, 
 
 // A message at the front of a buffer, and how many bytes it has.
 pub fn write<M: Outgoing>(m: &M, out: &mut [u8]) -> Result<usize, WriteFault>
-    ensures { λ r. ⌜ Written (now (out .entry)) 0 (messageOut (M·Outgoing .told (now (m .entry)))) r (now (out .exit)) ⌝ }
+    ensures written { λ r. ⌜ Written (now (out .entry)) 0 (messageOut (M·Outgoing .told (now (m .entry)))) r (now (out .exit)) ⌝ }
+    ensures back { λ r. ⌜ made r (λ n. Reads-back (M·Outgoing .told (now (m .entry))) (take n (now (out .exit)))) ⌝ }
 {
     write_at(m, out, 0)
 }

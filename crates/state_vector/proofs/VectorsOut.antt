@@ -36,7 +36,7 @@ row-is (e ∷ es) known low =
     (vectorEntryOut e, rowOut vectorEntryOut es, refl, (shortest (e .client), shortest (e .clock), refl, client-is (e .client) c, number-is (2 ^ 32 - 1) (e .clock) (omega arith) (omega arith)), row-is es (p .1) (q .1))
 
 -- with their count in front
-vector-is : (es : List VectorEntry) → length es ≤ 64 → allBelow clientOf (2 ^ 53) es ≡ true → allBelow clock-of (2 ^ 32) es ≡ true → VectorIs es (vectorOut es)
+pub vector-is : (es : List VectorEntry) → length es ≤ 64 → allBelow clientOf (2 ^ 53) es ≡ true → allBelow clock-of (2 ^ 32) es ≡ true → VectorIs es (vectorOut es)
 vector-is es few known low = (shortest (length es), rowOut vectorEntryOut es, refl, count-is 32 (length es) (omega arith) few, row-is es known low)
 
 -- so they are read as they were
