@@ -1,10 +1,17 @@
-// Examples of the readers, at the edges of each rule.
+// Examples of the readers and writers, at the edges of each rule.
 use crate::fault::WireFault;
 use crate::fault::WireFaultDebug;
 use crate::fault::WireFaultPartialEq;
 use crate::read::*;
+use crate::sink::BufferTooShort;
+use crate::sink::BufferTooShortDebug;
+use crate::sink::BufferTooShortPartialEq;
+use crate::sink::Filler;
+use crate::sink::FillerSink;
 use crate::utf8::is_text;
 use crate::var_uint::*;
+use crate::write::write_buf;
+use crate::write::write_var_u64;
 use std::test::*;
 
 // What was read, or the fault, and how many bytes are left.
@@ -163,4 +170,40 @@ fn buffers_and_their_lengths() -> Result<(), Fail> {
         Ok(_) => Err(Fail::new("a buffer that is cut")),
         Err(f) => check_eq(f, WireFault::EndOfBuffer),
     }
+}
+
+#[test]
+fn numbers_are_written_in_their_shortest_spelling() -> Result<(), Fail> {
+    let table: [(u64, &[u8]); 5] = [
+        (0, b"\x00"),
+        (127, b"\x7f"),
+        (128, b"\x80\x01"),
+        (300, b"\xac\x02"),
+        (u64::MAX, b"\xff\xff\xff\xff\xff\xff\xff\xff\xff\x01"),
+    ];
+    for (n, bytes) in table {
+        let mut out = [0xee; 10];
+        let mut filler = Filler {
+            out: &mut out,
+            at: 0,
+        };
+        write_var_u64(&mut filler, n)?;
+        let end = filler.at;
+        check_eq(out.get(0..end), Some(bytes))?;
+    }
+    Ok(())
+}
+
+// The answer to a buffer of two bytes, written from a place on, and what then stands in the four bytes.
+fn two_from(at: usize) -> (Result<(), BufferTooShort>, [u8; 4]) {
+    let mut out = [0xee; 4];
+    let mut filler = Filler { out: &mut out, at };
+    let answer = write_buf(&mut filler, &[7, 8]);
+    (answer, out)
+}
+
+#[test]
+fn buffers_go_in_whole_or_not_at_all() -> Result<(), Fail> {
+    check_eq(two_from(1), (Ok(()), [0xee, 2, 7, 8]))?;
+    check_eq(two_from(2), (Err(BufferTooShort), [0xee; 4])).note("one byte too short")
 }

@@ -1,4 +1,5 @@
 // Messages in words.
+use crate::normal::explain_normal;
 use encoding::fault::WireFault;
 use encoding::fault::WireFaultDebug;
 use encoding::fault::WireFaultDisplay;
@@ -157,8 +158,24 @@ fn explain_end(heap: Global, out: &mut String, row: Row, len: usize) -> Result<(
     Ok(())
 }
 
-// The messages that bytes hold, and how they end.
-fn explain_bytes(heap: Global, out: &mut String, bytes: &[u8]) -> Result<(), AnyError> {
+// The place after the message of a number: where the next one begins, or where the row ends.
+fn place_after(places: &[Placed], row: Row, number: usize, len: usize) -> usize {
+    let next = number.saturating_add(1);
+    match (places.get(next), row.end) {
+        (Some(p), _) if next < row.count => p.place,
+        (_, Some(End::Cut(place))) => place,
+        (_, Some(End::Refused(place, _))) => place,
+        (_, Some(End::Ended)) | (_, None) => len,
+    }
+}
+
+// The messages that bytes hold, with their normal forms if these are asked for, and how they end.
+fn explain_bytes(
+    heap: Global,
+    out: &mut String,
+    bytes: &[u8],
+    normal: bool,
+) -> Result<(), AnyError> {
     let first = Placed {
         place: 0,
         message: Message::AwarenessQuery,
@@ -170,12 +187,21 @@ fn explain_bytes(heap: Global, out: &mut String, bytes: &[u8]) -> Result<(), Any
         let place = p.place;
         write!(out, "  message {i} at byte {place}: ")?;
         explain_message(heap, out, p.message)?;
+        let after = place_after(places.as_slice(), row, i, bytes.len());
+        if normal && let Some(received) = bytes.get(place..after) {
+            explain_normal(heap, out, p.message, received)?;
+        }
     }
     explain_end(heap, out, row, bytes.len())
 }
 
 // A line in words: its messages and how it ended, or why it is not hexadecimal; nothing of a line with no bytes.
-pub fn explain_line(heap: Global, number: u64, line: &[u8]) -> Result<String, AnyError> {
+pub fn explain_line(
+    heap: Global,
+    number: u64,
+    line: &[u8],
+    normal: bool,
+) -> Result<String, AnyError> {
     let mut out = String::new(heap);
     match parse_line(heap, line) {
         Ok(bytes) => {
@@ -183,7 +209,7 @@ pub fn explain_line(heap: Global, number: u64, line: &[u8]) -> Result<String, An
                 return Ok(out);
             }
             writeln!(out, "line {number}")?;
-            explain_bytes(heap, &mut out, bytes.as_slice())?;
+            explain_bytes(heap, &mut out, bytes.as_slice(), normal)?;
         }
         Err(fault) => writeln!(out, "line {number}\n  not hexadecimal, {fault}")?,
     }

@@ -1,34 +1,43 @@
 -- Messages that were read and are written again.
 use mathlib.Core.Path.{_≡_, refl, sym, ap, subst, _∙_}
+use mathlib.Core.Bool.{cond}
 use mathlib.Core.Logic.{⊎-elim}
 use mathlib.Core.List.{List, [], _∷_, _++_}
 use Prim.Native.Nat.{ℕ, zero, suc, _+_, _/_, _^_, _≤_, _<_}
 use native.Mathlib.Omega.{arith}
-use lib.ListN.{length, length-append}
-use borrow.Author.Tests.{lt-ltb}
+use lib.Dec.{ltb, eqb}
+use lib.ListN.{length, getD, length-append}
+use borrow.Author.Tests.{lt-ltb, le-leb, eq-eqb, ne-eqb}
+use Rattle.std.proofs.shelf.Tests.{cond-true, cond-false, cond-both}
 use Rattle.std.proofs.str.Laws.{order}
+use Rattle.std.specs.declared.option.Option.{Option}
+use Rattle.std.specs.declared.option.Option.the-variants.{Some, None}
 use Rattle.std.specs.declared.result.Result.the-variants.{Ok, Err}
+use Rattle.encoding.specs.Fields.{presenceText}
 use Rattle.encoding.specs.Reading.{Reading}
 use Rattle.encoding.specs.Spelling.{BufferIs, RowIs}
+use Rattle.encoding.specs.Utf8.{Text}
 use Rattle.encoding.specs.Writing.{shortest, packed, Row, bufferOut, rowOut}
 use Rattle.encoding.proofs.Exacts.{never}
 use Rattle.encoding.proofs.Shortest.{shortest-one, shortest-more, some-shortest, shortest-is-shortest}
 use Rattle.encoding.proofs.Utf8s.{text-decides}
 use Rattle.state_vector.specs.declared.vector.VectorEntry.{VectorEntry}
-use Rattle.state_vector.specs.Tables.{always}
+use Rattle.state_vector.specs.Tables.{always, better, entered, latestOr, row}
 use Rattle.state_vector.specs.Vector.{clientOf, vectorEntries, tabled, tabledAfter, vector, clockIn}
 use Rattle.state_vector.specs.VectorOut.{vectorOut}
 use Rattle.state_vector.proofs.Rows.{length-row, updates-keep}
 use Rattle.state_vector.proofs.Sizes.{size-row}
-use Rattle.state_vector.proofs.VectorsOut.{vectors-shrink}
-use Rattle.message.specs.Again.{byClient, Again, Read-and-written-again}
+use Rattle.state_vector.proofs.VectorsOut.{table-known, vectors-shrink}
+use Rattle.message.specs.Again.{Absent, Apart, byClient, Again, Read-and-written-again}
 use Rattle.message.specs.Message.{Said, step1, step2, update, awareness, denied, granted, query, custom}
 use Rattle.message.specs.Messages.{whole, next}
 use Rattle.message.specs.Owned.{stateText}
 use Rattle.message.specs.Presence.{State, null, live, Entry, presence}
+use Rattle.message.specs.ReadBack.{OwnTag}
 use Rattle.message.specs.Spelling.{Tagged, MessageIs, step1-is, step2-is, update-is, awareness-is, denied-is, granted-is, query-is, custom-is, Shows, PresenceEntryIs}
-use Rattle.message.specs.Writing.{Told, led, presenceEntryOut, presenceOut, messageOut}
+use Rattle.message.specs.Writing.{Told, Readable, AllReadable, Sound, led, presenceEntryOut, presenceOut, messageOut}
 use Rattle.message.proofs.Contents.{messages-are-as-spelt}
+use Rattle.message.proofs.ReadsBack.{reads-back}
 
 -- a smaller number is no longer
 grows-by : (k m n : ℕ) → n ≤ k → m ≤ n → length (shortest m) ≤ length (shortest n)
@@ -143,6 +152,84 @@ again-written s rest m t e a =
 one-row : {bs out : List ℕ} {row : Row} → row ≡ Ok bs → row ≡ Ok out → out ≡ bs
 one-row p q = cc
 
+-- ---- every entry is kept
+abbrev client-of : Entry → ℕ
+client-of e = e .client
+
+-- entries of other clients change nothing
+latest-stays : (c : ℕ) (o : Option Entry) (es : List Entry) → Absent c es → latestOr client-of c o es ≡ o
+latest-stays c o [] h = refl
+latest-stays c o (e ∷ es) h = ap (λ w. latestOr client-of c w es) (cond-false (eqb (e .client) c) (Some e) o (ne-eqb (e .client) c (h .0))) ∙ latest-stays c o es (h .1)
+
+-- where no client stands twice, an entry is the last of its client
+latest-at : (es : List Entry) (e : Entry) (k : ℕ) (o : Option Entry) → Apart es → k < length es → ((d : Entry) → getD es k d ≡ e) → latestOr client-of (e .client) o es ≡ Some e
+latest-at [] e k o h l at = absurd (omega arith)
+latest-at (x ∷ es) e zero o h l at =
+    let i : x ≡ e = at e in
+    subst (λ z. latestOr client-of (z .client) o (x ∷ es) ≡ Some z) i
+    (ap (λ w. latestOr client-of (x .client) w es) (cond-true (eqb (x .client) (x .client)) (Some x) o (eq-eqb (x .client) (x .client) refl)) ∙ latest-stays (x .client) (Some x) es (h .0))
+latest-at (x ∷ es) e (suc k) o h l at = latest-at es e k (cond (eqb (x .client) (e .client)) (Some x) o) (h .1) (omega arith) (λ d. at d)
+
+-- ---- what is written reads again
+-- the table of a vector that was read
+vector-sound : (part : List ℕ) (es : List VectorEntry) (v : Reading (List VectorEntry)) → vectorEntries part ≡ v → tabledAfter [] v ≡ Ok es → Sound (Told.step1 es)
+vector-sound part es (Ok p) e h =
+    let i : tabled (p .0) ≡ es = cc in
+    let k = table-known part (p .1) (p .0) e in
+    subst (λ l. Sound (Told.step1 l)) i (k .0, updates-keep clientOf .ascending (p .0), k .1, k .2)
+vector-sound part es (Err f) e h = absurd (never h)
+
+-- an entry that is spelt can be read again
+text-passes : (bs : List ℕ) → Text bs → length bs ≤ 256 → presenceText bs ≡ Ok tt
+text-passes bs t l = rw (text-decides bs .1 t, le-leb (length bs) 256 l) refl
+
+entry-readable : (e : Entry) (bs : List ℕ) → PresenceEntryIs e bs → Readable e
+entry-readable e bs (a, b, c, text, i, h, k, t, s) = (h .1, omega (arith, k .2), ap presenceText (text-of text (e .state) s) ∙ text-passes text (t .0 .1) (t .1))
+
+all-readable : (es : List Entry) (bs : List ℕ) → RowIs PresenceEntryIs es bs → AllReadable es
+all-readable [] bs h = tt
+all-readable (e ∷ es) bs (a, b, i, h, r) = (entry-readable e a h, all-readable es b r)
+
+-- and entries that come in leave it so
+readable-came : (xs : List Entry) (e : Entry) → Readable e → AllReadable xs → AllReadable (entered client-of always xs e)
+readable-came [] e r h = (r, tt)
+readable-came (x ∷ xs) e r h =
+    cond-both (ltb (x .client) (e .client)) (x ∷ entered client-of always xs e) (cond (eqb (x .client) (e .client)) (better always e x ∷ xs) (e ∷ x ∷ xs)) AllReadable
+    (λ _. (h .0, readable-came xs e r (h .1)))
+    (λ _. cond-both (eqb (x .client) (e .client)) (better always e x ∷ xs) (e ∷ x ∷ xs) AllReadable (λ _. (r, h .1)) (λ _. (r, h)))
+
+readable-row : (xs es : List Entry) → AllReadable xs → AllReadable es → AllReadable (row client-of always xs es)
+readable-row xs [] h r = h
+readable-row xs (e ∷ es) h r = readable-row (entered client-of always xs e) es (readable-came xs e (r .0) h) (r .1)
+
+presence-sound : (part rest : List ℕ) (es : List Entry) → presence part ≡ Ok (es, rest) → Sound (Told.awareness (byClient es))
+presence-sound part rest es e =
+    let v = messages-are-as-spelt .presences .taken-is-spelt part es rest e in
+    let w = v .2 in
+    (omega (arith, w .3 .1, length-row client-of always [] es), updates-keep client-of .ascending es, readable-row [] es tt (all-readable es (w .1) (w .4)))
+
+-- the parts of a message that was read can be read again
+sound : (m : Said) (t : Told) → Again m t → Sound t
+sound (step1 part) t (es, v, i) = subst Sound (sym i) (vector-sound part es (vectorEntries part) refl v)
+sound (awareness part) t (es, rest, p, apart, i) = subst Sound (sym i) (presence-sound part rest es p)
+sound (step2 part) t i = subst Sound (sym i) tt
+sound (update part) t i = subst Sound (sym i) tt
+sound (denied reason) t i = subst Sound (sym i) tt
+sound granted t i = subst Sound (sym i) tt
+sound query t i = subst Sound (sym i) tt
+sound (custom tag part) t i = subst Sound (sym i) tt
+
+-- and a custom one has a tag of its own
+own-tag : (m : Said) (t : Told) (bs : List ℕ) → MessageIs m bs → Again m t → OwnTag t
+own-tag (step1 part) t bs h (es, v, i) = subst OwnTag (sym i) tt
+own-tag (awareness part) t bs h (es, rest, p, apart, i) = subst OwnTag (sym i) tt
+own-tag (step2 part) t bs h i = subst OwnTag (sym i) tt
+own-tag (update part) t bs h i = subst OwnTag (sym i) tt
+own-tag (denied reason) t bs h i = subst OwnTag (sym i) tt
+own-tag granted t bs h i = subst OwnTag (sym i) tt
+own-tag query t bs h i = subst OwnTag (sym i) tt
+own-tag (custom tag part) t bs (custom-is f (a, b, e, n, body)) i = subst OwnTag (sym i) (f, omega (arith, n .2))
+
 pub read-and-written-again : Read-and-written-again
 read-and-written-again = record {
   never-longer = λ s rest bs m t e a o. let w = again-written s rest m t e a in omega (arith, w .2, ap length (one-row o (w .1)));
@@ -150,4 +237,9 @@ read-and-written-again = record {
   same-vector = λ part rest es e c. ap clockIn (updates-keep clientOf .latest-is-held es c);
   same-presence = λ es c. updates-keep (λ (e : Entry). e .client) .latest-is-held es c;
   ascending = λ es. updates-keep (λ (e : Entry). e .client) .ascending es;
+  kept = λ es e apart has. updates-keep (λ (x : Entry). x .client) .latest-is-held es (e .client) ∙ latest-at es e (has .0) None apart (has .1) (has .2);
+  reads-again = λ s rest bs after m t e a o.
+      let v = messages-are-as-spelt .taken-is-spelt s rest m e in
+      let r = reads-back t bs (sound m t a) o in
+      (r .whole-message (own-tag m t (v .0) (v .2) a) after, r .same-contents);
 }

@@ -6,9 +6,11 @@
 --   Read-and-written-again   it is never longer than what was read, and says the same
 use mathlib.Core.Path.{_≡_}
 use mathlib.Core.Bool.{true}
-use mathlib.Core.List.{List, [], _∷_}
+use mathlib.Core.List.{List, [], _∷_, _++_}
 use Prim.Native.Nat.{ℕ, _+_, _≤_}
 use lib.ListN.{length}
+use Rattle.std.specs.shelf.Lists.{Has}
+use Rattle.std.specs.declared.option.Option.the-variants.{Some}
 use Rattle.std.specs.declared.result.Result.the-variants.{Ok}
 use Rattle.state_vector.specs.declared.vector.VectorEntry.{VectorEntry}
 use Rattle.state_vector.specs.Tables.{always, ascends, held, latest, row}
@@ -16,6 +18,7 @@ use Rattle.state_vector.specs.Vector.{clientOf, vectorEntries, tabled, vector, 
 use Rattle.message.specs.Message.{Said, step1, step2, update, awareness, denied, granted, query, custom}
 use Rattle.message.specs.Messages.{whole, next}
 use Rattle.message.specs.Presence.{Entry, presence}
+use Rattle.message.specs.ReadBack.{said, Same}
 use Rattle.message.specs.Writing.{Told, step1, step2, update, awareness, denied, granted, query, custom, messageOut}
 
 -- none of the entries is the client's
@@ -55,3 +58,7 @@ pub record Read-and-written-again : Type 0 where
   pub same-presence : (es : List Entry) (c : ℕ) → held (λ e. e .client) c (byClient es) ≡ latest (λ e. e .client) c es
   -- and its clients ascend
   pub ascending : (es : List Entry) → ascends (λ e. e .client) (byClient es) ≡ true
+  -- where no client stands twice, every entry that was read is kept
+  pub kept : (es : List Entry) (e : Entry) → Apart es → Has es e → held (λ x. x .client) (e .client) (byClient es) ≡ Some e
+  -- what is written, whatever follows it, reads as that message, and its buffer holds what it was written from, as it is read
+  pub reads-again : (s rest bs after : List ℕ) (m : Said) (t : Told) → next s ≡ whole m rest → Again m t → messageOut t ≡ Ok bs → (next (bs ++ after) ≡ whole (said t) after) × Same t

@@ -45,7 +45,7 @@ pub trait Outgoing {
         ensures sound { λ _. ⌜ Sound (told (now (self .entry))) ⌝ };
 
     // Its bytes go in, or there is no room for them.
-    fn put<S: Sink>(&self, sink: &mut S) -> Result<(), BufferTooShort>
+    fn send<S: Sink>(&self, sink: &mut S) -> Result<(), BufferTooShort>
         ensures { λ r. ⌜ Sent (S·Sink .room) (S·Sink .step) (now (sink .entry)) (drafted (told (now (self .entry)))) r (now (sink .exit)) ⌝ };
 }
 
@@ -108,7 +108,7 @@ pub impl Outgoing for StateVector as SyncStep1Out {
     }
 
     // Step 1: tag, kind, then the vector in a buffer.
-    fn put<S: Sink>(&self, sink: &mut S) -> Result<(), BufferTooShort> {
+    fn send<S: Sink>(&self, sink: &mut S) -> Result<(), BufferTooShort> {
         put_led_entries(sink, &[MSG_SYNC, MSG_SYNC_STEP_1], self.entries())
     }
 }
@@ -122,7 +122,7 @@ pub impl Outgoing for PresenceUpdate as AwarenessOut {
     }
 
     // Awareness: tag, then the entries in a buffer.
-    fn put<S: Sink>(&self, sink: &mut S) -> Result<(), BufferTooShort> {
+    fn send<S: Sink>(&self, sink: &mut S) -> Result<(), BufferTooShort> {
         put_led_entries(sink, &[MSG_AWARENESS], self.entries())
     }
 }
@@ -146,7 +146,7 @@ pub impl Outgoing for Draft<'_> as DraftOut {
     }
 
     // Tag and kind or flag, then the part in a buffer.
-    fn put<S: Sink>(&self, sink: &mut S) -> Result<(), BufferTooShort> {
+    fn send<S: Sink>(&self, sink: &mut S) -> Result<(), BufferTooShort> {
         match *self {
             Draft::SyncStep2(part) => put_led(sink, &[MSG_SYNC, MSG_SYNC_STEP_2], part),
             Draft::Update(part) => put_led(sink, &[MSG_SYNC, MSG_SYNC_UPDATE], part),
@@ -168,9 +168,9 @@ pub fn write_at<M: Outgoing>(m: &M, out: &mut [u8], at: usize) -> Result<usize, 
         count: 0,
         limit: out.len().saturating_sub(at),
     };
-    m.put(&mut counter)?;
+    m.send(&mut counter)?;
     let mut filler = Filler { out, at };
-    m.put(&mut filler)?;
+    m.send(&mut filler)?;
     Ok(counter.count)
 }
 

@@ -67,7 +67,7 @@ row-spelt (e ∷ es) bs (a, b, i, (c, k, j, (n, known), (sk, long, low)), r) =
     )
 
 -- what is known of entries that were read
-abbrev Known : List ℕ → List ℕ → List VectorEntry → Type 0
+abbrev pub Known : List ℕ → List ℕ → List VectorEntry → Type 0
 Known s rest es = (length es ≤ 64) × (allBelow clientOf (2 ^ 53) es ≡ true) × (allBelow clock-of (2 ^ 32) es ≡ true) × (1 + length (rowOut vectorEntryOut es) + length rest ≤ length s)
 
 read-known : (s rest : List ℕ) (es : List VectorEntry) → vectorEntries s ≡ Ok (es, rest) → Known s rest es
@@ -81,7 +81,7 @@ read-known s rest es e =
     (few, t .0, t .1, omega (arith, t .2, ap length (v .1), ap length (w .2), length-append (v .0) rest, length-append (w .0) (w .1)))
 
 -- and of the table that they make
-table-known : (s rest : List ℕ) (es : List VectorEntry) → vectorEntries s ≡ Ok (es, rest) → Known s rest (tabled es)
+pub table-known : (s rest : List ℕ) (es : List VectorEntry) → vectorEntries s ≡ Ok (es, rest) → Known s rest (tabled es)
 table-known s rest es e =
     let k = read-known s rest es e in (
       omega (arith, k .0, length-row clientOf always [] es),

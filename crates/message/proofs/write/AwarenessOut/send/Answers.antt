@@ -4,7 +4,7 @@ use lib.ListN.{take}
 use Rattle.encoding.specs.Writing.{bufferOut, countedOut, Sent}
 use Rattle.message.specs.Writing.{led, presenceEntryOut, ownEntry}
 use Rattle.message.proofs.Sending.{counted-map}
-use Rattle.message.proofs.write.AwarenessOut.put.Needs as need
+use Rattle.message.proofs.write.AwarenessOut.send.Needs as need
 
 pub returns : need.returns
 returns g c =
