@@ -1,4 +1,6 @@
 // The two documents that ship: a board of counts, and a board of slots.
+#![tactic(auto)]
+
 pub mod count;
 pub mod count_board;
 pub mod count_host;

@@ -1,4 +1,6 @@
 // Lines of hexadecimal bytes: a reader that tells each fault's column, and a writer.
+#![tactic(auto)]
+
 ghost use Rattle.std.specs.Prelude.{◌≡◌, ℕ, ◌<◌, List, IfOk, Some, Ok, vec_items, string_bytes};
 ghost use Rattle.hexadecimal.specs.declared.HexFault.TheVariants.{Memory};
 ghost use Rattle.hexadecimal.specs.Line.{sign_of, hex_line, Spells, Answered};

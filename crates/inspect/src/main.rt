@@ -1,4 +1,6 @@
 // Explains captured bytes, message by message: lines of hexadecimal bytes in, words out.
+#![tactic(auto)]
+
 use crate::report::explain_line;
 use anyhow::anyhow;
 use hexadecimal::lines::cut_line;

@@ -1,3 +1,5 @@
 // Tables as documents: joined client by client, read off the wire, and told of by a vector.
+#![tactic(auto)]
+
 pub mod laws;
 pub mod vector_of;

@@ -1,4 +1,6 @@
 // Messages of the sync protocol, read from bytes without a copy.
+#![tactic(auto)]
+
 pub mod laws;
 pub mod message;
 pub mod messages;

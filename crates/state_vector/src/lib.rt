@@ -1,4 +1,6 @@
 // Tables of entries by client id, what stands above what in them, and the state vector.
+#![tactic(auto)]
+
 pub mod keyed;
 pub mod laws;
 pub mod standing;
