@@ -9,14 +9,14 @@ loop-i-init g c = let k : c.args.n ≡ c.args.n - 0 = omega arith in ap (λ n. p
 
 pub loop-i-preserved : goal.loop-i-preserved
 loop-i-preserved g c =
-    let k : c.args.n - c.loop-i.-i ≡ suc (c.args.n - (c.loop-i.-i + 1)) = omega arith in
-    c.loop-i.invariant ∙ ap (λ n. past (entries g.L.Layout.entry n c.loop-i.rest.now)) k ∙ past_more g.L.Layout.entry (c.args.n - (c.loop-i.-i + 1)) c.loop-i.rest.now c.in-ok-rest.rest.now c.in-ok-rest.ensures
+    let k : c.args.n - c.loop-i._i ≡ suc (c.args.n - (c.loop-i._i + 1)) = omega arith in
+    c.loop-i.invariant ∙ ap (λ n. past (entries g.L.Layout.entry n c.loop-i.rest.now)) k ∙ past_more g.L.Layout.entry (c.args.n - (c.loop-i._i + 1)) c.loop-i.rest.now c.in_ok-rest.rest.now c.in_ok-rest.ensures
 
-pub returns-in-err-rest : goal.returns-in-err-rest
-returns-in-err-rest g c =
-    let p = err_from_is_err_and c.from-residual.result c.from-residual.ensures.1 in
-    let k : c.args.n - c.loop-i.-i ≡ suc (c.args.n - (c.loop-i.-i + 1)) = omega arith in
-    rw (p.1, p.2) (sym (c.loop-i.invariant ∙ ap (λ n. past (entries g.L.Layout.entry n c.loop-i.rest.now)) k ∙ past_stopped g.L.Layout.entry (c.args.n - (c.loop-i.-i + 1)) c.loop-i.rest.now _ c.in-err-rest.ensures))
+pub returns-in_err-rest : goal.returns-in_err-rest
+returns-in_err-rest g c =
+    let p = err_from_is_err_and c.from_residual.result c.from_residual.ensures.1 in
+    let k : c.args.n - c.loop-i._i ≡ suc (c.args.n - (c.loop-i._i + 1)) = omega arith in
+    rw (p.1, p.2) (sym (c.loop-i.invariant ∙ ap (λ n. past (entries g.L.Layout.entry n c.loop-i.rest.now)) k ∙ past_stopped g.L.Layout.entry (c.args.n - (c.loop-i._i + 1)) c.loop-i.rest.now _ c.in_err-rest.ensures))
 
 pub returns : goal.returns
-returns g c = let k : c.args.n - c.loop-i.-i ≡ 0 = omega arith in sym (c.loop-i.invariant ∙ ap (λ n. past (entries g.L.Layout.entry n c.loop-i.rest.now)) k)
+returns g c = let k : c.args.n - c.loop-i._i ≡ 0 = omega arith in sym (c.loop-i.invariant ∙ ap (λ n. past (entries g.L.Layout.entry n c.loop-i.rest.now)) k)

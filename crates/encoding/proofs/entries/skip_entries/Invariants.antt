@@ -4,4 +4,4 @@ use Rattle.encoding.proofs.entries.skip_entries.Given as goal
 
 -- what is left of the walk ends as the whole walk does
 abbrev pub invariant-loop-i : goal.invariant-loop-i
-invariant-loop-i g l = past (entries g.L.Layout.entry l.n l.s) ≡ past (entries g.L.Layout.entry (l.n - l.-i) l.rest)
+invariant-loop-i g l = past (entries g.L.Layout.entry l.n l.s) ≡ past (entries g.L.Layout.entry (l.n - l._i) l.rest)

@@ -4,5 +4,5 @@ use Rattle.encoding.proofs.entries_out.fill_chosen.Goals as goal
 
 pub returns : goal.returns
 returns g c =
-    let n = runs_count _ c.put-counted.new.sink _ c.in-ok-put-counted.ensures.1 in
-    (omega (arith, n.0), lent_stood _ c.put-counted-2.new.sink _ _ tt c.in-ok-put-counted-2.ensures (search rules))
+    let n = runs_count _ c.put_counted.new.sink _ c.in_ok-put_counted.ensures.1 in
+    (omega (arith, n.0), lent_stood _ c.put_counted-2.new.sink _ _ tt c.in_ok-put_counted-2.ensures (search rules))

@@ -4,6 +4,6 @@ use Rattle.encoding.proofs.entries_out.measure_chosen.Goals as goal
 
 pub returns : goal.returns
 returns g c =
-    let p = c.in-ok-put-counted.ensures in
-    let n = runs_count _ c.put-counted.new.sink _ p.1 in
+    let p = c.in_ok-put_counted.ensures in
+    let n = runs_count _ c.put_counted.new.sink _ p.1 in
     (omega (arith, n.0), omega (arith, n.0, p.0))

@@ -4,14 +4,14 @@ use Rattle.std.proofs.lemmas.Bool.{and_left, and_right}
 use Rattle.encoding.specs.Utf8.{followers}
 use Rattle.encoding.proofs.Utf8Steps.{followers_more, followers_out}
 use Rattle.encoding.proofs.utf8.followed.Goals as goal
-use Rattle.encoding.proofs.utf8.followed.Goals.{in-default-via-then-rest-lt1, in-default-via-in-len1-up+then-low-b+else-b-high, in-default-via-in-len1-up+else-low-b}
+use Rattle.encoding.proofs.utf8.followed.Goals.{in_default-via-then-rest-lt1, in_default-via-in-len1-up+then-low-b+else-b-high, in_default-via-in-len1-up+else-low-b}
 
-pub returns-in-default : goal.returns-in-default
-returns-in-default c =
-    let e : followers (c.args.due - c.loop.counter) c.loop.low c.loop.high c.loop.rest.now ≡ None = followers_out _ _ _ c.loop.rest.now (omega arith) (λ l. elim c.in-default.branch [
-      | in-default-via-then-rest-lt1 w ↦ absurd (omega (arith, ltb-true))
-      | in-default-via-in-len1-up+then-low-b+else-b-high w ↦ and_right _ _ (lt-leb _ _ w.if-b-high.false)
-      | in-default-via-in-len1-up+else-low-b w ↦ and_left _ _ (lt-leb _ _ w.if-low-b.false)
+pub returns-in_default : goal.returns-in_default
+returns-in_default c =
+    let e : followers (c.args.due - c.loop.counter) c.loop.low c.loop.high c.loop.rest.now ≡ None = followers_out _ _ _ c.loop.rest.now (omega arith) (λ l. elim c.in_default.branch [
+      | in_default-via-then-rest-lt1 w ↦ absurd (omega (arith, ltb-true))
+      | in_default-via-in-len1-up+then-low-b+else-b-high w ↦ and_right _ _ (lt-leb _ _ w.if-b-high.false)
+      | in_default-via-in-len1-up+else-low-b w ↦ and_left _ _ (lt-leb _ _ w.if-low-b.false)
     ]) in
     sym e ∙ c.loop.invariant
 

@@ -5,9 +5,9 @@ use Rattle.encoding.proofs.Utf8s.{text_decides}
 use Rattle.encoding.proofs.Utf8Steps.{text_nothing}
 use Rattle.encoding.proofs.utf8.is_text.Goals as goal
 
-pub returns-in-default : goal.returns-in-default
-returns-in-default c =
-    let e : false ≡ is_text c.args.s.now = sym c.in-default.ensures.same ∙ c.loop-rest.invariant in
+pub returns-in_default : goal.returns-in_default
+returns-in_default c =
+    let e : false ≡ is_text c.args.s.now = sym c.in_default.ensures.same ∙ c.loop-rest.invariant in
     record { test = e; spelt = Decides-at false (is_text c.args.s.now) e (text_decides c.args.s.now) }
 
 pub returns : goal.returns

@@ -6,12 +6,12 @@ use Rattle.encoding.proofs.Fronts.{tail, headed}
 use Rattle.encoding.proofs.Numbers.{ends, goes_on_at, grown}
 use Rattle.encoding.proofs.var_uint.+number_in.Goals as goal
 
-pub returns-in-err-high : goal.returns-in-err-high
-returns-in-err-high t c =
-    let p = err_from_is_err_and c.from-residual.result c.from-residual.ensures.1 in
+pub returns-in_err-high-in-len1-up : goal.returns-in_err-high-in-len1-up
+returns-in_err-high-in-len1-up t c =
+    let p = err_from_is_err_and c.from_residual.result c.from_residual.ensures.1 in
     let n : 0 < length c.args.s.now = omega (arith, ltb-false) in
-    let e = goes_on_at c.args.room c.args.top c.args.s.now (omega arith) n c.if-b-lt128.false (omega (arith, c.type-inv.s 0)) in
-    rw (p.1, p.2) (sym (e ∙ ap (grown (get_or c.args.s.now 0 0 - 128) c.args.top) (sym c.in-err-high.ensures)))
+    let e = goes_on_at c.args.room c.args.top c.args.s.now (omega arith) n c.if-b-lt128.false (omega (arith, c.type_inv.s 0)) in
+    rw (p.1, p.2) (sym (e ∙ ap (grown (get_or c.args.s.now 0 0 - 128) c.args.top) (sym c.in_err-high-in-len1-up.ensures)))
 
 pub returns-then-b-lt128 : goal.returns-then-b-lt128
 returns-then-b-lt128 t c =
@@ -22,12 +22,12 @@ pub returns-then-high-top : goal.returns-then-high-top
 returns-then-high-top t c =
     let n : 0 < length c.args.s.now = omega (arith, ltb-false) in
     let low : ℕ = get_or c.args.s.now 0 0 - 128 in
-    let l : low + 128 * c.in-ok-high.high ≤ c.args.top = omega (arith, c.type-inv.s 0) in
-    sym (goes_on_at c.args.room c.args.top c.args.s.now (omega arith) n c.if-b-lt128.false (omega (arith, c.type-inv.s 0)) ∙ ap (grown low c.args.top) (sym c.in-ok-high.ensures) ∙ rw (le-leb _ _ l) refl)
+    let l : low + 128 * c.in_ok-high-in-len1-up.high ≤ c.args.top = omega (arith, c.type_inv.s 0) in
+    sym (goes_on_at c.args.room c.args.top c.args.s.now (omega arith) n c.if-b-lt128.false (omega (arith, c.type_inv.s 0)) ∙ ap (grown low c.args.top) (sym c.in_ok-high-in-len1-up.ensures) ∙ rw (le-leb _ _ l) refl)
 
 pub returns-else-high-top : goal.returns-else-high-top
 returns-else-high-top t c =
     let n : 0 < length c.args.s.now = omega (arith, ltb-false) in
     let low : ℕ = get_or c.args.s.now 0 0 - 128 in
-    let l : c.args.top < low + 128 * c.in-ok-high.high = omega (arith, c.type-inv.s 0) in
-    sym (goes_on_at c.args.room c.args.top c.args.s.now (omega arith) n c.if-b-lt128.false (omega (arith, c.type-inv.s 0)) ∙ ap (grown low c.args.top) (sym c.in-ok-high.ensures) ∙ rw (lt-leb _ _ l) refl)
+    let l : c.args.top < low + 128 * c.in_ok-high-in-len1-up.high = omega (arith, c.type_inv.s 0) in
+    sym (goes_on_at c.args.room c.args.top c.args.s.now (omega arith) n c.if-b-lt128.false (omega (arith, c.type_inv.s 0)) ∙ ap (grown low c.args.top) (sym c.in_ok-high-in-len1-up.ensures) ∙ rw (lt-leb _ _ l) refl)

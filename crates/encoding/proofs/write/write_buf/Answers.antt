@@ -14,4 +14,4 @@ returns g c =
     let bytes = c.args.bytes.now in
     let fits : length c.args.bytes.now < 2 ^ 32 = omega arith in
     let enough : length (shortest (length c.args.bytes.now)) + length c.args.bytes.now ≤ g.S.Sink.room c.args.sink.now = omega arith in
-    buffer_writes g.S.Sink.room g.S.Sink.step c.args.sink.now c.put-all.new.self bytes c.put-all.result fits (put_then g.S.Sink.room g.S.Sink.step c.args.sink.now c.write-var-u64.new.sink c.put-all.new.self (shortest (length bytes)) bytes c.in-ok-write-var-u64.field-0 c.put-all.result enough c.in-ok-write-var-u64.ensures c.put-all.ensures)
+    buffer_writes g.S.Sink.room g.S.Sink.step c.args.sink.now c.put_all.new.self bytes c.put_all.result fits (put_then g.S.Sink.room g.S.Sink.step c.args.sink.now c.write_var_u64.new.sink c.put_all.new.self (shortest (length bytes)) bytes c.in_ok-write_var_u64.field-0 c.put_all.result enough c.in_ok-write_var_u64.ensures c.put_all.ensures)

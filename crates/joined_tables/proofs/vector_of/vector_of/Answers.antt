@@ -7,7 +7,7 @@ use Rattle.joined_tables.proofs.vector_of.vector_of.Goals as goal
 pub loop-e-preserved : goal.loop-e-preserved
 loop-e-preserved g c =
     let v = take c.loop-e.vector.len c.loop-e.vector.entries in
-    vector_more g.E.InVector.tells c.args.entries.now c.requires.few c.requires.known c.loop-e.e-index c.e-item.result v (take c.put.new.self.len c.put.new.self.entries) c.loop-e-test.true c.e-item.is c.loop-e.invariant (c.put.ensures.used ∙ ap (taken v) c.vector-entry.ensures)
+    vector_more g.E.InVector.tells c.args.entries.now c.requires.few c.requires.known c.loop-e.e-index c.e-item.result v (take c.put.new.self.len c.put.new.self.entries) c.loop-e-test.true c.e-item.is c.loop-e.invariant (c.put.ensures.used ∙ ap (taken v) c.vector_entry.ensures)
 
 pub returns : goal.returns
 returns g c =

@@ -10,12 +10,12 @@ unfolding message
 returns-in-0-to-127 c =
     let n : 0 < length c.args.s.now = omega (arith, ltb-false) in
     let h : get_or c.args.s.now 0 0 < 128 = omega (arith, ltb-true) in
-    c.read-body.ensures ∙ sym (ap (λ r. thence r body) (one_byte 10 (2 ^ 8 - 1) c.args.s.now (omega arith) (omega arith) n h))
+    c.read_body.ensures ∙ sym (ap (λ r. thence r body) (one_byte 10 (2 ^ 8 - 1) c.args.s.now (omega arith) (omega arith) n h))
 
-pub returns-in-err-tag : goal.returns-in-err-tag
+pub returns-in_err-tag : goal.returns-in_err-tag
 unfolding message
-returns-in-err-tag c = search rules
+returns-in_err-tag c = search rules
 
-pub returns-in-ok-tag : goal.returns-in-ok-tag
+pub returns-in_ok-tag : goal.returns-in_ok-tag
 unfolding message
-returns-in-ok-tag c = search rules
+returns-in_ok-tag c = search rules

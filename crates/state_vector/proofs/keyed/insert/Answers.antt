@@ -11,7 +11,7 @@ returns g c =
     let len = c.args.len in
     let at = c.args.at in
     let e = c.args.e in
-    let whole = ap (λ ys. set ys at e) c.copy-within.ensures.after ∙ shifted xs len at e c.requires.within c.requires.fits in
+    let whole = ap (λ ys. set ys at e) c.copy_within.ensures.after ∙ shifted xs len at e c.requires.within c.requires.fits in
     let some : length (take len xs) ≡ len = length-take-le len xs (omega arith) in
     let long : length (insert (take len xs) at e) ≡ len + 1 = length-insert (take len xs) at e (omega arith) ∙ ap (λ n. n + 1) some in
     record {

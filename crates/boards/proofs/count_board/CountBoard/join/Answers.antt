@@ -10,7 +10,7 @@ use Rattle.boards.proofs.count_board.CountBoard.join.Goals as goal
 
 pub unreachable-requires : goal.unreachable-requires
 unreachable-requires c =
-    never_stopped client_of outranks keepable count_in c.args.update.count c.loop-i.-i c.loop-i-test.true c.loop-i.rest.now c.loop-i.invariant.0 c.in-default.field-0 c.in-default.ensures.reads
+    never_stopped client_of outranks keepable count_in c.args.update.count c.loop-i.-i c.loop-i-test.true c.loop-i.rest.now c.loop-i.invariant.0 c.in_default.field-0 c.in_default.ensures.reads
 
 -- the board as the turn began
 abbrev before : goal.Then-not-offer → Board

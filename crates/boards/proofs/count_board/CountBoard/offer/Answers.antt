@@ -16,8 +16,8 @@ returns-then-e-eq0 c =
     let is = ap (λ (d : Board). d.0) stays ∙ table_is client_of outranks keepable xs c.args.self.now.sound in
     record { fits = sym (ap (λ l. leb (length l) 64) is ∙ le-leb (length xs) 64 few); comes = λ _. sym stays }
 
-pub invariant-of-self : goal.invariant-of-self
-invariant-of-self c =
+pub invariant_of-self : goal.invariant_of-self
+invariant_of-self c =
     let all = c.args.self.now.counts in
     let xs = take c.args.self.now.len all in
     let few : length xs ≤ length all = omega (arith, length-take c.args.self.now.len all) in
@@ -36,14 +36,14 @@ returns-in-Full c =
       comes = λ f. absurd (true≢false (sym f));
     }
 
-pub returns-in-default : goal.returns-in-default
-returns-in-default c =
+pub returns-in_default : goal.returns-in_default
+returns-in_default c =
     let all = c.args.self.now.counts in
     let xs = take c.args.self.now.len all in
     let few : length xs ≤ length all = omega (arith, length-take c.args.self.now.len all) in
     let places : length all ≡ 64 = omega arith in
     let fine = kept_if c.args.e c.requires.known (omega arith) c.requires.narrow in
-    let f = found_unless c.offer-outcome.result c.in-default.not-Full in
+    let f = found_unless c.offer-outcome.result c.in_default.not-Full in
     record {
       fits = answered client_of outranks keepable (length all) xs c.args.e few c.args.self.now.sound fine c.offer-outcome.result true c.offer-outcome.ensures.answer f ∙ ap (leb (length (enter client_of outranks keepable (board xs) c.args.e).0)) places;
       comes = λ _. comes_in client_of outranks keepable (length all) xs c.args.e few c.args.self.now.sound fine c.offer-outcome.result (take c.offer-outcome.new.self.len c.offer-outcome.new.self.entries.now) c.offer-outcome.ensures.answer c.offer-outcome.ensures.used f;

@@ -4,8 +4,8 @@ use Rattle.state_vector.specs.Tables.{ascends}
 use Rattle.state_vector.proofs.Offering.{replaces, keeps, comes_in, ascends_offered}
 use Rattle.state_vector.proofs.keyed.Table.offer.Goals as goal
 
-pub returns-then-stands-above : goal.returns-then-stands-above
-returns-then-stands-above g c =
+pub returns-then-stands_above : goal.returns-then-stands_above
+returns-then-stands_above g c =
     let key = g.E.Keyed.key in
     let above = g.E.Standing.above in
     let ys = c.args.self.now.entries.now in
@@ -16,7 +16,7 @@ returns-then-stands-above g c =
     let h = c.in-Ok.ensures in
     let there : get_or (take n ys) c.in-Ok.at x ≡ get_or ys c.in-Ok.at x = get_or-take n ys c.in-Ok.at x (omega arith) in
     let r = replaces key above (length ys) (take n ys) e c.client.result c.client.ensures c.in-Ok.at h x
-    (ap (above e) there ∙ sym c.stands-above.ensures ∙ c.if-stands-above.true) in
+    (ap (above e) there ∙ sym c.stands_above.ensures ∙ c.if-stands_above.true) in
     let used = c.replace.ensures.used ∙ sym r.0 in
     record {
       answer = sym r.1;
@@ -28,8 +28,8 @@ returns-then-stands-above g c =
       named = refl;
     }
 
-pub returns-else-stands-above : goal.returns-else-stands-above
-returns-else-stands-above g c =
+pub returns-else-stands_above : goal.returns-else-stands_above
+returns-else-stands_above g c =
     let key = g.E.Keyed.key in
     let above = g.E.Standing.above in
     let ys = c.args.self.now.entries.now in
@@ -40,7 +40,7 @@ returns-else-stands-above g c =
     let h = c.in-Ok.ensures in
     let there : get_or (take n ys) c.in-Ok.at x ≡ get_or ys c.in-Ok.at x = get_or-take n ys c.in-Ok.at x (omega arith) in
     let r = keeps key above (length ys) (take n ys) e c.client.result c.client.ensures c.in-Ok.at h x
-    (ap (above e) there ∙ sym c.stands-above.ensures ∙ c.if-stands-above.false) in
+    (ap (above e) there ∙ sym c.stands_above.ensures ∙ c.if-stands_above.false) in
     record {
       answer = sym r.1;
       used = sym r.0;
@@ -59,13 +59,13 @@ returns-in-Err g c =
     let n = c.args.self.now.len in
     let e = c.args.e in
     let r = comes_in key above (length ys) (take n ys) e c.client.result c.client.ensures c.in-Err.at c.in-Err.ensures n (length-take-le n ys c.requires.fits) in
-    let used = c.insert-at.ensures.used ∙ sym r.0 in
+    let used = c.insert_at.ensures.used ∙ sym r.0 in
     record {
-      answer = c.insert-at.ensures.answer ∙ sym r.1;
+      answer = c.insert_at.ensures.answer ∙ sym r.1;
       used = used;
-      rest = c.insert-at.ensures.rest;
-      fits = c.insert-at.ensures.fits;
+      rest = c.insert_at.ensures.rest;
+      fits = c.insert_at.ensures.fits;
       ascends = ap (ascends key) used ∙ ascends_offered key above (length ys) (take n ys) e c.requires.ascends;
-      places = c.insert-at.ensures.places;
-      named = c.insert-at.ensures.named;
+      places = c.insert_at.ensures.places;
+      named = c.insert_at.ensures.named;
     }

@@ -29,13 +29,13 @@ returns-in-Err g c =
     let n = c.args.self.now.len in
     let e = c.args.e in
     let r = comes_in key always (length ys) (take n ys) e c.client.result c.client.ensures c.in-Err.at c.in-Err.ensures n (length-take-le n ys c.requires.fits) in
-    let used = c.insert-at.ensures.used ∙ sym r.0 in
+    let used = c.insert_at.ensures.used ∙ sym r.0 in
     record {
-      answer = c.insert-at.ensures.answer ∙ sym r.1;
+      answer = c.insert_at.ensures.answer ∙ sym r.1;
       used = used;
-      rest = c.insert-at.ensures.rest;
-      fits = c.insert-at.ensures.fits;
+      rest = c.insert_at.ensures.rest;
+      fits = c.insert_at.ensures.fits;
       ascends = ap (ascends key) used ∙ ascends_offered key always (length ys) (take n ys) e c.requires.ascends;
-      places = c.insert-at.ensures.places;
-      named = c.insert-at.ensures.named;
+      places = c.insert_at.ensures.places;
+      named = c.insert_at.ensures.named;
     }

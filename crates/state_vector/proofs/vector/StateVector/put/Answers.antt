@@ -9,8 +9,8 @@ use Rattle.state_vector.proofs.vector.StateVector.put.Goals as goal
 abbrev clockIs : VectorEntry → ℕ
 clockIs e = e.clock
 
-pub invariant-of-self : goal.invariant-of-self
-invariant-of-self c =
+pub invariant_of-self : goal.invariant_of-self
+invariant_of-self c =
     let v = c.args.self.now in
     let known =
     ap (all_below client_of 9007199254740992) c.put-outcome.ensures.used

@@ -11,44 +11,44 @@ use Rattle.state_vector.proofs.vector.StateVector.read.Goals as goal
 pub loop-i-init : goal.loop-i-init
 loop-i-init c =
     let none = c.new-v.ensures in
-    let k : c.in-ok-count.count - 0 ≡ c.in-ok-count.count = omega arith in
-    (omega (arith, ap length none), sym (ap (λ xs. tabled_after xs (entries vector_entry (c.in-ok-count.count - 0) c.in-ok-count.rest.now)) none ∙ ap (λ n. tabled_after [] (entries vector_entry n c.in-ok-count.rest.now)) k))
+    let k : c.in_ok-count.count - 0 ≡ c.in_ok-count.count = omega arith in
+    (omega (arith, ap length none), sym (ap (λ xs. tabled_after xs (entries vector_entry (c.in_ok-count.count - 0) c.in_ok-count.rest.now)) none ∙ ap (λ n. tabled_after [] (entries vector_entry n c.in_ok-count.rest.now)) k))
 
-pub returns-in-err-e : goal.returns-in-err-e
-returns-in-err-e c =
-    let n = c.in-ok-count.count in
+pub returns-in_err-e : goal.returns-in_err-e
+returns-in_err-e c =
+    let n = c.in_ok-count.count in
     let i = c.loop-i.-i in
     let xs = take c.loop-i.v.len c.loop-i.v.entries in
     let k : n - i ≡ suc (n - (i + 1)) = omega arith in
-    let p = err_from_is_err_and c.from-residual-in-err-e.result c.from-residual-in-err-e.ensures.1 in
+    let p = err_from_is_err_and c.from_residual-in_err-e.result c.from_residual-in_err-e.ensures.1 in
     rw (p.1, p.2) (sym (
-    ap (λ r. tabled_after [] (thence r (entries vector_entry))) (sym c.in-ok-count.ensures.reads)
+    ap (λ r. tabled_after [] (thence r (entries vector_entry))) (sym c.in_ok-count.ensures.reads)
     ∙ c.loop-i.invariant.1
     ∙ ap (λ m. tabled_after xs (entries vector_entry m c.loop-i.rest.now)) k
-    ∙ tabled_stopped (n - (i + 1)) c.loop-i.rest.now xs _ c.in-err-e.ensures.reads))
+    ∙ tabled_stopped (n - (i + 1)) c.loop-i.rest.now xs _ c.in_err-e.ensures.reads))
 
-pub returns-in-err-put : goal.returns-in-err-put
-returns-in-err-put c =
+pub returns-in_err-put : goal.returns-in_err-put
+returns-in_err-put c =
     let xs = take c.loop-i.v.len c.loop-i.v.entries in
-    let few : c.in-ok-count.count ≤ 64 = c.in-ok-count.ensures.few in
-    let ok = takes_known xs c.in-ok-e.e c.in-ok-e.ensures.known (omega arith) in
-    let no = c.in-err-put.ensures.answer in
+    let few : c.in_ok-count.count ≤ 64 = c.in_ok-count.ensures.few in
+    let ok = takes_known xs c.in_ok-e.e c.in_ok-e.ensures.known (omega arith) in
+    let no = c.in_err-put.ensures.answer in
     let z : ◌≡◌ {A = ℕ} 0 1 = cc in
     absurd (omega arith)
 
 pub loop-i-preserved : goal.loop-i-preserved
 loop-i-preserved c =
-    let n = c.in-ok-count.count in
+    let n = c.in_ok-count.count in
     let i = c.loop-i.-i in
-    let e = c.in-ok-e.e in
+    let e = c.in_ok-e.e in
     let xs = take c.loop-i.v.len c.loop-i.v.entries in
     let ys = take c.put.new.self.len c.put.new.self.entries in
-    let few : n ≤ 64 = c.in-ok-count.ensures.few in
+    let few : n ≤ 64 = c.in_ok-count.ensures.few in
     let k : n - i ≡ suc (n - (i + 1)) = omega arith in
-    let came : ys ≡ entered client_of always xs e = c.put.ensures.used ∙ taken_known xs e c.in-ok-e.ensures.known (omega arith) in (
+    let came : ys ≡ entered client_of always xs e = c.put.ensures.used ∙ taken_known xs e c.in_ok-e.ensures.known (omega arith) in (
       omega (arith, ap length came, length_entered client_of always xs e),
       c.loop-i.invariant.1
           ∙ ap (λ m. tabled_after xs (entries vector_entry m c.loop-i.rest.now)) k
-          ∙ tabled_more (n - (i + 1)) c.loop-i.rest.now c.in-ok-e.after.now xs e c.in-ok-e.ensures.reads
-          ∙ ap (λ zs. tabled_after zs (entries vector_entry (n - (i + 1)) c.in-ok-e.after.now)) (sym came),
+          ∙ tabled_more (n - (i + 1)) c.loop-i.rest.now c.in_ok-e.after.now xs e c.in_ok-e.ensures.reads
+          ∙ ap (λ zs. tabled_after zs (entries vector_entry (n - (i + 1)) c.in_ok-e.after.now)) (sym came),
     )
