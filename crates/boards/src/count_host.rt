@@ -10,7 +10,7 @@ use crate::count_out::NewCounts;
 use crate::count_update::CountUpdate;
 use document::fault::DocumentFault;
 use document::host::DocumentHost;
-use encoding::entries_out::{fill_chosen, measure_chosen};
+use encoding::chosen_out::{fill_chosen, measure_chosen};
 use encoding::sink::BufferTooShort;
 use joined_tables::vector_of::vector_of;
 use state_vector::vector::StateVector;

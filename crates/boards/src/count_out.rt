@@ -3,7 +3,8 @@ ghost use Rattle.document.specs.Kind.{known};
 ghost use Rattle.boards.specs.CountBoard.{as_vector, count_out, is_news};
 
 use crate::count::Count;
-use encoding::entries_out::{Choice, Entry};
+use encoding::chosen_out::Choice;
+use encoding::entries_out::Entry;
 use encoding::sink::{BufferTooShort, Sink};
 use encoding::write::{write_var_u32, write_var_u64};
 use joined_tables::vector_of::InVector;

@@ -1,7 +1,7 @@
 use Rattle.std.proofs.Common.{◌≡◌, ◌+◌, length, filter, sym, ap, ◌∙◌, arith, take_all}
 use Rattle.encoding.proofs.Chosen.{kept_front, kept_no, count_yes}
-use Rattle.encoding.proofs.entries_out.count_chosen.Goals as goal
-use Rattle.encoding.proofs.entries_out.count_chosen.Goals.{then-takes_entry, else-takes_entry}
+use Rattle.encoding.proofs.chosen_out.count_chosen.Goals as goal
+use Rattle.encoding.proofs.chosen_out.count_chosen.Goals.{then-takes_entry, else-takes_entry}
 
 pub overflow_add-count : goal.overflow_add-count
 overflow_add-count g c = omega (arith, kept_front (g.C.Choice.takes c.args.choice.now) c.args.entries.now c.loop-e.e-index, c.loop-e.invariant)

@@ -1,6 +1,6 @@
 use Rattle.std.proofs.Common.{arith}
 use Rattle.encoding.proofs.Fillings.{runs_count}
-use Rattle.encoding.proofs.entries_out.measure_chosen.Goals as goal
+use Rattle.encoding.proofs.chosen_out.measure_chosen.Goals as goal
 
 pub returns : goal.returns
 returns g c =

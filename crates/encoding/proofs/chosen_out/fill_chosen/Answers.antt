@@ -1,6 +1,6 @@
 use Rattle.std.proofs.Common.{arith, rules}
 use Rattle.encoding.proofs.Fillings.{runs_count, lent_stood}
-use Rattle.encoding.proofs.entries_out.fill_chosen.Goals as goal
+use Rattle.encoding.proofs.chosen_out.fill_chosen.Goals as goal
 
 pub returns : goal.returns
 returns g c =

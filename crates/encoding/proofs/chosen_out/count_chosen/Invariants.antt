@@ -1,5 +1,5 @@
 use Rattle.std.proofs.Common.{◌≡◌, length, take, filter}
-use Rattle.encoding.proofs.entries_out.count_chosen.Given as goal
+use Rattle.encoding.proofs.chosen_out.count_chosen.Given as goal
 
 -- as many as were taken so far
 abbrev pub invariant-loop-e : goal.invariant-loop-e

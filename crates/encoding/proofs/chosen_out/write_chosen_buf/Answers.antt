@@ -3,7 +3,7 @@ use Rattle.std.proofs.lemmas.Result.{err_from_is_err_and}
 use Rattle.encoding.specs.Writing.{shortest}
 use Rattle.encoding.proofs.Sendings.{buffer_sent, buffer_short}
 use Rattle.encoding.proofs.Shortest.{some_shortest}
-use Rattle.encoding.proofs.entries_out.write_chosen_buf.Goals as goal
+use Rattle.encoding.proofs.chosen_out.write_chosen_buf.Goals as goal
 
 pub returns-in_err-write_var_u64 : goal.returns-in_err-write_var_u64
 returns-in_err-write_var_u64 g c =

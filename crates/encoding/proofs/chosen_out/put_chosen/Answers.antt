@@ -3,8 +3,8 @@ use Rattle.std.proofs.lemmas.Result.{err_from_is_err_and}
 use Rattle.encoding.specs.Writing.{row_out, Sent}
 use Rattle.encoding.proofs.Chosen.{kept_no, row_yes, row_parts}
 use Rattle.encoding.proofs.Sendings.{sent_then, sent_short, sent_none}
-use Rattle.encoding.proofs.entries_out.put_chosen.Goals as goal
-use Rattle.encoding.proofs.entries_out.put_chosen.Goals.{then-takes_entry+in_ok-write, else-takes_entry}
+use Rattle.encoding.proofs.chosen_out.put_chosen.Goals as goal
+use Rattle.encoding.proofs.chosen_out.put_chosen.Goals.{then-takes_entry+in_ok-write, else-takes_entry}
 
 pub loop-e-init : goal.loop-e-init
 loop-e-init g c = sent_none g.S.Sink.room g.S.Sink.step c.args.sink.now

@@ -1,6 +1,6 @@
 use Rattle.std.proofs.Common.{take, Ok, filter}
 use Rattle.encoding.specs.Writing.{row_out, Sent}
-use Rattle.encoding.proofs.entries_out.put_chosen.Given as goal
+use Rattle.encoding.proofs.chosen_out.put_chosen.Given as goal
 
 -- those that were taken so far have gone in
 abbrev pub invariant-loop-e : goal.invariant-loop-e
