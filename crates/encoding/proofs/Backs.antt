@@ -1,5 +1,5 @@
 -- What is written beside what is read.
-use Rattle.std.proofs.Common.{◌≡◌, ℕ, ◌+◌, ◌-◌, ◌^◌, ◌<◌, ◌≤◌, ltb, leb, List, ◌++◌, length, Ok, refl, ap, arith, length-append, ltb-true, leb-true}
+use Rattle.std.proofs.Common.{◌≡◌, ℕ, ◌+◌, ◌-◌, ◌^◌, ◌<◌, ◌≤◌, ltb, leb, List, length, Ok, refl, ap, arith, length-append, ltb-true, leb-true}
 use Rattle.encoding.specs.declared.fault.WireFault.TheVariants.{InvalidClientId, TooManyEntries}
 use Rattle.encoding.specs.Fields.{buffer, plain_text, count, presence_text}
 use Rattle.encoding.specs.ReadBack.{FieldsReadBack, NeverLonger}

@@ -1,12 +1,12 @@
 -- Entries that are written and read back, and entries that were read and are written again.
-use Rattle.std.proofs.Common.{◌≡◌, ℕ, zero, suc, ◌+◌, ◌-◌, ◌^◌, ◌<◌, ◌≤◌, Bool, true, false, List, [], ◌∷◌, ◌++◌, map, length, Ok, Err, sym, refl, ap, ◌∙◌, subst, append_assoc, arith, length-append}
+use Rattle.std.proofs.Common.{◌≡◌, ℕ, zero, suc, ◌+◌, ◌-◌, ◌^◌, ◌≤◌, List, [], ◌∷◌, ◌++◌, map, length, Ok, sym, refl, ap, ◌∙◌, subst, append_assoc, arith, length-append}
 use Rattle.encoding.specs.Entries.{entries}
 use Rattle.encoding.specs.Fields.{count, count_in}
 use Rattle.encoding.specs.Reading.{Reading, thence, named}
 use Rattle.encoding.specs.VarUint.{var_uint}
 use Rattle.encoding.specs.Writing.{shortest, row_out, counted_out}
-use Rattle.encoding.proofs.Backs.{fields_read_back, never_longer}
-use Rattle.encoding.proofs.Exacts.{ok_is, never, came, named_came, tested}
+use Rattle.encoding.proofs.Backs.{never_longer}
+use Rattle.encoding.proofs.Exacts.{ok_is, came, named_came, tested}
 
 -- something holds of each entry
 abbrev pub Each : {X : Type 0} → (X → Type 0) → List X → Type 0

@@ -1,5 +1,5 @@
 -- Readers that take exactly what is spelt, put together as the readers are.
-use Rattle.std.proofs.Common.{◌≡◌, ℕ, zero, suc, ◌-◌, ◌^◌, ◌<◌, ◌≤◌, Bool, true, false, cond, ltb, leb, List, [], ◌∷◌, ◌++◌, length, take, drop, Ok, Err, Result, sym, refl, ap, ◌∙◌, subst, append_assoc, arith, length-append, take-append-drop, length-take-le, ltb-true, lt-ltb, le-leb, leb-true}
+use Rattle.std.proofs.Common.{◌≡◌, ℕ, zero, suc, ◌-◌, ◌^◌, ◌≤◌, Bool, true, false, cond, ltb, leb, List, [], ◌∷◌, ◌++◌, length, take, drop, Ok, Err, Result, sym, refl, ap, ◌∙◌, subst, append_assoc, arith, length-append, take-append-drop, length-take-le, ltb-true, lt-ltb, le-leb, leb-true}
 use lib.Seq.{take-append_seam, drop-append_seam}
 use Rattle.encoding.specs.declared.fault.WireFault.{WireFault}
 use Rattle.encoding.specs.declared.fault.WireFault.TheVariants.{EndOfBuffer, UnexpectedValue, InvalidClientId, TooManyEntries, TextTooLong}
@@ -7,7 +7,7 @@ use Rattle.encoding.specs.Entries.{entries}
 use Rattle.encoding.specs.Fields.{part, buffer, plain_text, text, client_id, client_id_in, count, count_in, presence_text, presence_text_in}
 use Rattle.encoding.specs.Reading.{Reading, thence, named, passed}
 use Rattle.encoding.specs.Spelling.{Exactly, NumberIs, BufferIs, TextIs, ClientIs, CountIs, PresenceTextIs, RowIs, CountedIs, FieldsAreAsSpelt}
-use Rattle.encoding.specs.Utf8.{is_text, Text}
+use Rattle.encoding.specs.Utf8.{is_text}
 use Rattle.encoding.specs.VarUint.{var_uint}
 use Rattle.encoding.proofs.Spellings.{var_uints_are_as_spelt}
 use Rattle.encoding.proofs.Utf8s.{text_decides}

@@ -2,7 +2,7 @@
 use Rattle.std.proofs.Common.{◌≡◌, ℕ, ◌+◌, ◌^◌, ◌<◌, ◌≤◌, List, [], ◌∷◌, ◌++◌, length, get_or, take, drop, Ok, Err, Result, sym, refl, ap, ◌∙◌, subst, append_assoc, append-nil, arith, length-append, take-append-drop}
 use Rattle.std.proofs.lemmas.List.{take_more}
 use Rattle.encoding.specs.declared.sink.BufferTooShort.{BufferTooShort}
-use Rattle.encoding.specs.Sink.{Runs, Put}
+use Rattle.encoding.specs.Sink.{Put}
 use Rattle.encoding.specs.Writing.{shortest, buffer_out, row_out, Writes, told, Sent}
 use Rattle.encoding.proofs.Rows.{buffer_writes}
 use Rattle.encoding.proofs.Runs.{runs_append, put_then, put_short}

@@ -167,8 +167,8 @@ fn presence_texts_meet_utf8_before_length(rt: HostRuntime) -> Result<(), Fail> {
 fn buffers_and_their_lengths(rt: HostRuntime) -> Result<(), Fail> {
     match read_buf(&[2, 7, 8, 9]) {
         Ok((part, rest)) => {
-            assert_eq!(rt; part, &[7, 8]);
-            assert_eq!(rt; rest, &[9]);
+            assert_eq!(rt; part, [7, 8].as_slice());
+            assert_eq!(rt; rest, [9].as_slice());
         }
         Err(f) => return Err(f.into()),
     }

@@ -1,4 +1,4 @@
-use Rattle.std.proofs.Common.{◌≡◌, ◌+◌, length, filter, sym, ap, ◌∙◌, arith, take_all}
+use Rattle.std.proofs.Common.{◌+◌, length, filter, sym, ap, ◌∙◌, arith, take_all}
 use Rattle.encoding.proofs.Chosen.{kept_front, kept_no, count_yes}
 use Rattle.encoding.proofs.chosen_out.count_chosen.Goals as goal
 use Rattle.encoding.proofs.chosen_out.count_chosen.Goals.{then-takes_entry, else-takes_entry}

@@ -1,4 +1,4 @@
-use Rattle.std.proofs.Common.{◌≡◌, ℕ, ◌+◌, List, take, drop, Ok, Err, filter, sym, ap, ◌∙◌, subst, take_all}
+use Rattle.std.proofs.Common.{ℕ, ◌+◌, List, take, drop, Ok, Err, filter, sym, ap, ◌∙◌, subst, take_all}
 use Rattle.std.proofs.lemmas.Result.{err_from_is_err_and}
 use Rattle.encoding.specs.Writing.{row_out, Sent}
 use Rattle.encoding.proofs.Chosen.{kept_no, row_yes, row_parts}

@@ -1,4 +1,3 @@
-use Rattle.std.proofs.Common.{Err}
 use Rattle.std.proofs.lemmas.Result.{err_from_is_err_and}
 use Rattle.encoding.proofs.Sendings.{sent_then, sent_short}
 use Rattle.encoding.proofs.entries_out.put_counted.Goals as goal

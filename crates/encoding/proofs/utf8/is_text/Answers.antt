@@ -1,4 +1,4 @@
-use Rattle.std.proofs.Common.{◌≡◌, true, false, sym, ◌∙◌, arith, true-eqb}
+use Rattle.std.proofs.Common.{◌≡◌, true, false, sym, ◌∙◌, true-eqb}
 use Rattle.std.proofs.lemmas.Bool.Decides.{Decides-at}
 use Rattle.encoding.specs.Utf8.{is_text}
 use Rattle.encoding.proofs.Utf8s.{text_decides}
