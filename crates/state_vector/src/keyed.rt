@@ -1,5 +1,5 @@
 // Tables of entries that ascend by client id: found, inserted and replaced in a slice whose first `len` entries are in use.
-ghost use Rattle.std.specs.Prelude.{◌≡◌, ℕ, ◌+◌, ◌<◌, ◌≤◌, true, leb, length, take, drop, if◌then◌else◌, MatchResult, nat_le, slice_set};
+ghost use Rattle.std.specs.Prelude.{◌≡◌, ℕ, ◌+◌, ◌<◌, ◌≤◌, true, length, take, drop, if◌then◌else◌, MatchResult, nat_le, slice_set};
 ghost use Rattle.std.specs.List.{insert};
 ghost use Rattle.state_vector.specs.Tables.{ascends, held, lent, always, updated, outcome, Found, Missing};
 
@@ -104,8 +104,8 @@ impl<E: Keyed + Copy> Table<'_, E> {
     pub(crate) fn insert_at(&mut self, at: usize, e: E) -> Outcome
         requires fits { self.old.len ≤ length self.old.entries.now }
         requires within { at ≤ self.old.len }
-        ensures answer { result ≡ (if leb (length self.old.entries.now) self.old.len then Outcome.Full else Outcome.Inserted) }
-        ensures used { take self.new.len self.new.entries.now ≡ cond (nat_le (length self.old.entries.now) self.old.len) (take self.old.len self.old.entries.now) (insert (take self.old.len self.old.entries.now) at e) }
+        ensures answer { result ≡ (if nat_le (length self.old.entries.now) self.old.len then Outcome.Full else Outcome.Inserted) }
+        ensures used { take self.new.len self.new.entries.now ≡ (if nat_le (length self.old.entries.now) self.old.len then take self.old.len self.old.entries.now else insert (take self.old.len self.old.entries.now) at e) }
         ensures rest { drop self.new.len self.new.entries.now ≡ drop self.new.len self.old.entries.now }
         ensures fits { self.new.len ≤ length self.new.entries.now }
         ensures places { length self.new.entries.now ≡ length self.old.entries.now }

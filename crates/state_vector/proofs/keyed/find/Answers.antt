@@ -1,4 +1,5 @@
-use Rattle.std.proofs.Common.{◌+◌, ◌-◌, ◌/◌, ◌<◌, length, arith}
+use Rattle.std.proofs.Common.{Less, Equal, Greater, ◌+◌, ◌-◌, ◌/◌, ◌<◌, length, arith}
+use Rattle.std.proofs.lemmas.Cmp.{ranked}
 use Rattle.state_vector.proofs.Lookups.{low_more, high_less, read_key, free_from, held_from}
 use Rattle.state_vector.proofs.keyed.find.Goals as goal
 
@@ -9,7 +10,7 @@ loop-low-preserved-in-Less g c =
     let mid = c.loop-low.low + (c.loop-low.high - c.loop-low.low) / 2 in
     let within : mid < length xs = omega arith in
     let here = read_key key xs mid _ _ within c.index-entries-mid.is c.client.ensures in
-    let less : c.client.result < c.args.client = c.in-Less.ensures in (
+    let less : c.client.result < c.args.client = ranked c.client.result c.args.client Less c.in-Less.ensures in (
       omega arith,
       omega arith,
       low_more key c.args.client xs mid c.requires within (λ d. omega (arith, here d)),
@@ -23,7 +24,7 @@ returns-in-Equal g c =
     let mid = c.loop-low.low + (c.loop-low.high - c.loop-low.low) / 2 in
     let within : mid < length xs = omega arith in
     let here = read_key key xs mid _ _ within c.index-entries-mid.is c.client.ensures in
-    let same = c.in-Equal.ensures in
+    let same = ranked c.client.result c.args.client Equal c.in-Equal.ensures in
     held_from key c.args.client xs mid c.requires within (λ d. omega (arith, here d))
 
 pub loop-low-preserved : goal.loop-low-preserved
@@ -33,7 +34,7 @@ loop-low-preserved g c =
     let mid = c.loop-low.low + (c.loop-low.high - c.loop-low.low) / 2 in
     let within : mid < length xs = omega arith in
     let here = read_key key xs mid _ _ within c.index-entries-mid.is c.client.ensures in
-    let less : c.args.client < c.client.result = c.in-Greater.ensures in (
+    let less : c.args.client < c.client.result = ranked c.client.result c.args.client Greater c.in-Greater.ensures in (
       omega arith,
       omega arith,
       c.loop-low.invariant.2,

@@ -6,8 +6,8 @@ use Rattle.state_vector.proofs.Offering.{below_offered}
 use Rattle.state_vector.proofs.Sizes.{below_brought}
 use Rattle.state_vector.proofs.vector.StateVector.put.Goals as goal
 
-abbrev clockIs : VectorEntry → ℕ
-clockIs e = e.clock
+abbrev clock_is : VectorEntry → ℕ
+clock_is e = e.clock
 
 pub invariant_of-self : goal.invariant_of-self
 invariant_of-self c =
@@ -16,6 +16,6 @@ invariant_of-self c =
     ap (all_below client_of 9007199254740992) c.put-outcome.ensures.used
     ∙ below_offered client_of always (length v.entries) (take v.len v.entries) c.args.e 9007199254740992 (search rules) v.known in
     let narrow =
-    ap (all_below clockIs 4294967296) c.put-outcome.ensures.used
-    ∙ below_brought client_of always clockIs 4294967296 (length v.entries) (take v.len v.entries) c.args.e (search rules) v.narrow in
-    (search rules, (search rules, (known, (narrow, tt))))
+    ap (all_below clock_is 4294967296) c.put-outcome.ensures.used
+    ∙ below_brought client_of always clock_is 4294967296 (length v.entries) (take v.len v.entries) c.args.e (search rules) v.narrow in
+    record { fits = search rules; ascending = search rules; known = known; narrow = narrow }

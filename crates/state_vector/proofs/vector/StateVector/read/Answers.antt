@@ -17,7 +17,7 @@ loop-i-init c =
 pub returns-in_err-e : goal.returns-in_err-e
 returns-in_err-e c =
     let n = c.in_ok-count.count in
-    let i = c.loop-i.-i in
+    let i = c.loop-i._i in
     let xs = take c.loop-i.v.len c.loop-i.v.entries in
     let k : n - i ≡ suc (n - (i + 1)) = omega arith in
     let p = err_from_is_err_and c.from_residual-in_err-e.result c.from_residual-in_err-e.ensures.1 in
@@ -39,7 +39,7 @@ returns-in_err-put c =
 pub loop-i-preserved : goal.loop-i-preserved
 loop-i-preserved c =
     let n = c.in_ok-count.count in
-    let i = c.loop-i.-i in
+    let i = c.loop-i._i in
     let e = c.in_ok-e.e in
     let xs = take c.loop-i.v.len c.loop-i.v.entries in
     let ys = take c.put.new.self.len c.put.new.self.entries in
