@@ -125,8 +125,8 @@ fn every_other_tag_is_custom(rt: HostRuntime) -> Result<(), Fail> {
     match read_next(&[0xc8, 1, 2, 5, 6, 9]) {
         Next::Whole(Message::Custom(tag, part), rest) => {
             assert_eq!(rt; tag, 200);
-            assert_eq!(rt; part, &[5, 6]);
-            assert_eq!(rt; rest, &[9]);
+            assert_eq!(rt; part, [5, 6].as_slice());
+            assert_eq!(rt; rest, [9].as_slice());
             Ok(())
         }
         _ => Err(Fail::new("a custom message")),
@@ -262,7 +262,7 @@ fn a_reason_is_judged_before_there_is_room(rt: HostRuntime) {
 fn two_read_back_as_others(rt: HostRuntime) -> Result<(), Fail> {
     check_written(&rt, &Draft::Custom(3, b""), b"\x03\x00")?;
     match read_next(b"\x03\x00") {
-        Next::Whole(Message::AwarenessQuery, rest) => assert_eq!(rt; rest, &[0]),
+        Next::Whole(Message::AwarenessQuery, rest) => assert_eq!(rt; rest, [0].as_slice()),
         _ => return Err(Fail::new("a query")),
     }
     let spelt = update_of(&[live(7, 3, b"null")])?;

@@ -1,7 +1,7 @@
 -- Vectors as they are spelt, beside vectors as they are read.
-use Rattle.std.proofs.Common.{◌≡◌, ℕ, ◌-◌, ◌^◌, List, sym, refl, ap, subst}
+use Rattle.std.proofs.Common.{◌≡◌, ℕ, ◌-◌, ◌^◌, List, refl, subst}
 use Rattle.encoding.specs.Fields.{client_id_in}
-use Rattle.encoding.specs.Reading.{Reading, named}
+use Rattle.encoding.specs.Reading.{named}
 use Rattle.encoding.specs.Spelling.{Exactly, NumberIs, ClientIs}
 use Rattle.encoding.specs.VarUint.{var_uint}
 use Rattle.encoding.proofs.Exacts.{Then, exact_thence, exact_named, exact_as, exact_number, exact_client_id, exact_counted}

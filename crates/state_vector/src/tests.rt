@@ -100,9 +100,10 @@ fn offers(rt: HostRuntime) {
     assert_eq!(rt; pair.offer(seen_at(7, 1, true)), Outcome::Kept);
     assert_eq!(rt; pair.offer(seen_at(3, 2, true)), Outcome::Replaced);
     assert_eq!(rt; pair.len, 2);
-    assert_eq!(rt; pair.entries[0].client, 3);
-    assert_eq!(rt; pair.entries[0].clock, 2);
-    assert!(rt; !pair.entries[1].live);
+    let [first, second] = pair.entries;
+    assert_eq!(rt; first.client, 3);
+    assert_eq!(rt; first.clock, 2);
+    assert!(rt; !second.live);
 }
 
 // An entry of a client at a clock.
@@ -119,7 +120,7 @@ fn keeps_the_last(rt: HostRuntime) -> Result<(), Fail> {
     v.put(known_to(7, 2))?;
     assert_eq!(rt; v.get(7), Some(2));
     assert_eq!(rt; v.get(4), None);
-    assert_eq!(rt; v.entries(), &[known_to(3, 1), known_to(7, 2)]);
+    assert_eq!(rt; v.entries(), [known_to(3, 1), known_to(7, 2)].as_slice());
     assert_eq!(rt;
         v.put(known_to(9007199254740992, 1)),
         Err(WireFault::InvalidClientId)
@@ -147,7 +148,7 @@ fn refuses_a_65th_client(rt: HostRuntime) -> Result<(), Fail> {
 #[test]
 fn reads(rt: HostRuntime) -> Result<(), Fail> {
     let v = StateVector::read(&[3, 7, 9, 3, 0, 7, 2, 255])?;
-    assert_eq!(rt; v.entries(), &[known_to(3, 0), known_to(7, 2)]);
+    assert_eq!(rt; v.entries(), [known_to(3, 0), known_to(7, 2)].as_slice());
     assert_eq!(rt; v.get(3), Some(0));
     assert_eq!(rt;
         StateVector::read(&[65]).err(),
