@@ -28,7 +28,7 @@ pub struct PresenceEntry<'a> {
 fn state_of(text: &[u8]) -> PresenceState<'_>
     ensures { state_is result ≡ state_of text.now }
 {
-    if text == b"null" {
+    if text == b"null".as_slice() {
         PresenceState::Null
     } else {
         PresenceState::Live(text)
