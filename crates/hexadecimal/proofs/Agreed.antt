@@ -3,7 +3,7 @@ use Rattle.std.proofs.Common.{◌≡◌, ℕ, ◌+◌, ◌*◌, List, [], ◌∷
 use Rattle.hexadecimal.specs.declared.HexFault.{HexFault}
 use Rattle.hexadecimal.specs.declared.Sign.{Sign}
 use Rattle.hexadecimal.specs.declared.Sign.TheVariants as sign
-use Rattle.hexadecimal.specs.Line.{sign_of, prefixed, hex_from, Spells, DigitOf, Blank, ended, comment, blank, byte}
+use Rattle.hexadecimal.specs.Line.{sign_of, prefixed, hex_from, Spells, DigitOf, ended, comment, blank, byte}
 use Rattle.hexadecimal.proofs.Signs.{digit_of, blank_of, comment_of, sign_digit, sign_blank, sign_comment}
 
 -- one more byte before what the rest spells

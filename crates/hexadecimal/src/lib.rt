@@ -180,7 +180,7 @@ mod tests {
         assert_eq!(rt; text.as_str(), "00 AB 9F");
         assert_eq!(rt;
             parse_line(heap, text.as_bytes())?.as_slice(),
-            b"\x00\xab\x9f"
+            b"\x00\xab\x9f".as_slice()
         );
         assert_eq!(rt; write_hex(heap, b"")?.as_str(), "");
         let fault = HexFault::HalfByte(12);

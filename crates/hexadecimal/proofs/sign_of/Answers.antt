@@ -24,18 +24,18 @@ pub returns-in-97-to-102 : goal.returns-in-97-to-102
 unfolding sign_of
 returns-in-97-to-102 c = grind (arith, nat_tests)
 
-pub returns-in-default : goal.returns-in-default
+pub returns-in_default : goal.returns-in_default
 unfolding sign_of
-returns-in-default c = grind (arith, nat_tests)
+returns-in_default c = grind (arith, nat_tests)
 
-pub returns-in-default·2 : goal.returns-in-default·2
+pub returns-in_default-2 : goal.returns-in_default-2
 unfolding sign_of
-returns-in-default·2 c = grind (arith, nat_tests)
+returns-in_default-2 c = grind (arith, nat_tests)
 
-pub returns-in-default·3 : goal.returns-in-default·3
+pub returns-in_default-3 : goal.returns-in_default-3
 unfolding sign_of
-returns-in-default·3 c = grind (arith, nat_tests)
+returns-in_default-3 c = grind (arith, nat_tests)
 
-pub returns-in-default·4 : goal.returns-in-default·4
+pub returns-in_default-4 : goal.returns-in_default-4
 unfolding sign_of
-returns-in-default·4 c = grind (arith, nat_tests)
+returns-in_default-4 c = grind (arith, nat_tests)
