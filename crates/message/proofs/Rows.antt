@@ -3,7 +3,7 @@ use Rattle.std.proofs.Common.{◌≡◌, ℕ, zero, suc, ◌+◌, ◌-◌, ◌<�
 use native.Mathlib.Nat.{min-eq_left, min-eq_right}
 use lib.Seq.{take-append-le, drop-append-le}
 use borrow.Author.Tests.{lt-leb}
-use Rattle.std.proofs.lemmas.List.{take_more_set, drop-set-lt, map_append, length-map, drop-drop}
+use Rattle.std.proofs.lemmas.List.{take_more_set, drop-set-lt, map-append, length-map, drop-drop}
 use Rattle.encoding.specs.declared.fault.WireFault.{WireFault}
 use Rattle.message.specs.declared.messages.End.{End}
 use Rattle.message.specs.declared.messages.Placed.{Placed}
@@ -67,7 +67,7 @@ placing_none all xs = record { said = refl; end = refl; same = refl; within = om
 -- one more
 pub placing_more : (all left rest : Messages) (xs ys : List Placed) (count : ℕ) (p : Placed) → Placing all xs ys count left → left ≡ before (placed_is p) rest → count < length ys → Placing all xs (set ys count p) (count + 1) rest
 placing_more all left rest xs ys count p h e l =
-    let t : map placed_is (take (count + 1) (set ys count p)) ≡ map placed_is (take count ys) ++ placed_is p ∷ [] = ap (map placed_is) (take_more_set ys count p l) ∙ map_append placed_is (take count ys) (p ∷ []) in
+    let t : map placed_is (take (count + 1) (set ys count p)) ≡ map placed_is (take count ys) ++ placed_is p ∷ [] = ap (map placed_is) (take_more_set ys count p l) ∙ map-append placed_is (take count ys) (p ∷ []) in
     let b : count < count + 1 = omega arith in
     record {
       said = h.said ∙ ap (λ r. map placed_is (take count ys) ++ r.said) e ∙ sym (append_assoc (map placed_is (take count ys)) (placed_is p ∷ []) rest.said) ∙ ap (λ r. r ++ rest.said) (sym t);

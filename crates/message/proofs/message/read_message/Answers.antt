@@ -12,10 +12,10 @@ returns-in-0-to-127 c =
     let h : get_or c.args.s.now 0 0 < 128 = omega (arith, ltb-true) in
     c.read_body.ensures ∙ sym (ap (λ r. thence r body) (one_byte 10 (2 ^ 8 - 1) c.args.s.now (omega arith) (omega arith) n h))
 
-pub returns-in_err-tag : goal.returns-in_err-tag
+pub returns-in_err-tag-in_default : goal.returns-in_err-tag-in_default
 unfolding message
-returns-in_err-tag c = search rules
+returns-in_err-tag-in_default c = search rules
 
-pub returns-in_ok-tag : goal.returns-in_ok-tag
+pub returns-in_ok-tag-in_default : goal.returns-in_ok-tag-in_default
 unfolding message
-returns-in_ok-tag c = search rules
+returns-in_ok-tag-in_default c = search rules
