@@ -1,5 +1,5 @@
 -- What buffers hold, as it is spelt, beside what is read of it.
-use Rattle.std.proofs.Common.{◌≡◌, ℕ, ◌-◌, ◌^◌, ◌<◌, Bool, true, false, cond, List, [], ◌∷◌, ◌++◌, length, Ok, Err, codes, Result, sym, refl, ap, ◌∙◌, subst, append_assoc, arith, length-append}
+use Rattle.std.proofs.Common.{◌≡◌, ℕ, ◌-◌, ◌^◌, ◌<◌, Bool, true, false, cond, List, [], ◌∷◌, ◌++◌, length, Ok, Err, codes, Result, sym, refl, ap, ◌∙◌, subst, arith, length-append}
 use Rattle.std.specs.Str.{bytes_eq}
 use Rattle.std.proofs.lemmas.Slice.Eq.{bytes_eq-Decides}
 use Rattle.encoding.specs.declared.fault.WireFault.{WireFault}
@@ -13,7 +13,7 @@ use Rattle.state_vector.specs.Spelling.{VectorIs}
 use Rattle.state_vector.specs.Vector.{vector_entries}
 use Rattle.state_vector.proofs.Spelt.{exact_vector}
 use Rattle.message.specs.Message.{Said, step1, step2, update, awareness, denied, granted, query, custom, message, contents}
-use Rattle.message.specs.Messages.{Next, whole, refused, cut, next, found, judged}
+use Rattle.message.specs.Messages.{whole, refused, cut, next, found, judged}
 use Rattle.message.specs.Presence.{State, null, live, Entry, state_of, presence_entry, presence}
 use Rattle.message.specs.Spelling.{Tagged, MessageIs, step1_is, step2_is, update_is, awareness_is, denied_is, granted_is, query_is, custom_is, Shows, PresenceEntryIs, PresenceIs, Holds, MessagesAreAsSpelt}
 use Rattle.message.proofs.Nexts.{next_of}

@@ -1,5 +1,5 @@
 -- Texts that are kept.
-use Rattle.std.proofs.Common.{◌≡◌, ℕ, ◌≤◌, true, leb, List, ◌++◌, length, take, is_ok, Ok, sym, refl, ap, ◌∙◌, subst, leb-true}
+use Rattle.std.proofs.Common.{◌≡◌, ℕ, ◌≤◌, true, leb, List, ◌++◌, length, take, is_ok, Ok, sym, ap, ◌∙◌, leb-true}
 use lib.Seq.{take-append_seam}
 use Rattle.encoding.specs.Fields.{presence_text}
 use Rattle.encoding.specs.Utf8.{is_text}

@@ -1,8 +1,8 @@
 -- The message at the front of bytes.
-use Rattle.std.proofs.Common.{◌≡◌, ℕ, ◌<◌, List, [], ◌∷◌, length, Ok, Err, Result, sym, refl, ap, ◌∙◌, arith}
+use Rattle.std.proofs.Common.{◌≡◌, ℕ, ◌<◌, List, [], ◌∷◌, length, Ok, Result, sym, refl, ap, ◌∙◌, arith}
 use Rattle.encoding.specs.declared.fault.WireFault.{WireFault}
 use Rattle.message.specs.Message.{Said, message, contents}
-use Rattle.message.specs.Messages.{Next, next, found, judged}
+use Rattle.message.specs.Messages.{next, found, judged}
 
 -- of bytes that are not empty
 pub next_of : (s : List ℕ) → 0 < length s → next s ≡ found (message s)

@@ -1,14 +1,13 @@
 -- Messages that were written, as they are spelt and so read.
-use Rattle.std.proofs.Common.{◌≡◌, ℕ, suc, ◌+◌, ◌-◌, ◌^◌, ◌<◌, ◌≤◌, Bool, true, false, cond, ltb, leb, List, [], ◌∷◌, ◌++◌, map, length, take, drop, IfOk, Ok, Err, Result, sym, refl, ap, ◌∙◌, subst, append-nil, arith, lit≤, ltb-true, lt-ltb, leb-true}
+use Rattle.std.proofs.Common.{◌≡◌, ℕ, suc, ◌+◌, ◌-◌, ◌^◌, ◌<◌, ◌≤◌, Bool, true, false, cond, ltb, leb, List, [], ◌∷◌, ◌++◌, map, length, take, drop, IfOk, Ok, Err, Result, sym, refl, ap, ◌∙◌, subst, append-nil, arith, ltb-true, leb-true}
 use lib.Seq.{take-append_seam}
 use Rattle.encoding.specs.declared.fault.WireFault.{WireFault}
 use Rattle.encoding.specs.declared.fault.WireFault.TheVariants.{UnexpectedValue}
 use Rattle.encoding.specs.declared.write.WriteFault.{WriteFault}
 use Rattle.encoding.specs.declared.write.WriteFault.TheVariants.{Short}
-use Rattle.encoding.specs.Fields.{plain_text, presence_text}
-use Rattle.encoding.specs.Spelling.{NumberIs, BufferIs, TextIs, CountIs, PresenceTextIs, RowIs}
-use Rattle.encoding.specs.Utf8.{is_text, Text}
-use Rattle.encoding.specs.Writing.{spelt as digits, shortest, packed, Row, asked, buffer_out, row_out, counted_out}
+use Rattle.encoding.specs.Spelling.{NumberIs, BufferIs, CountIs, RowIs}
+use Rattle.encoding.specs.Utf8.{is_text}
+use Rattle.encoding.specs.Writing.{spelt as digits, shortest, packed, Row, asked, buffer_out, row_out}
 use Rattle.encoding.proofs.Backs.{number_is, buffer_is, client_is, count_is}
 use Rattle.encoding.proofs.Exacts.{never, test_passes, both}
 use Rattle.encoding.proofs.Shortest.{shortest_one}
@@ -17,11 +16,10 @@ use Rattle.state_vector.proofs.VectorsOut.{vector_is, vectors_back}
 use Rattle.state_vector.specs.Vector.{vector}
 use Rattle.state_vector.specs.VectorOut.{vector_out}
 use Rattle.message.specs.Message.{Said, message}
-use Rattle.message.specs.Messages.{whole, next}
 use Rattle.message.specs.Owned.{state_text}
-use Rattle.message.specs.Presence.{Entry, state_of, presence}
+use Rattle.message.specs.Presence.{Entry, presence}
 use Rattle.message.specs.ReadBack.{said, as_read, OwnTag, Same, ReadsBack, ExceptionsAreReal}
-use Rattle.message.specs.Spelling.{Tagged, MessageIs, step1_is, step2_is, update_is, awareness_is, denied_is, granted_is, query_is, custom_is, Shows, PresenceEntryIs, PresenceIs, Holds}
+use Rattle.message.specs.Spelling.{Tagged, MessageIs, step1_is, step2_is, update_is, awareness_is, denied_is, granted_is, query_is, custom_is, PresenceEntryIs, PresenceIs, Holds}
 use Rattle.message.specs.Writing.{Told, step1, step2, update, awareness, denied, granted, query, custom, Readable, AllReadable, Sound, presence_entry_out, presence_out, led, asks, drafted, message_out, Written}
 use Rattle.message.proofs.Contents.{shown, exact_presence, messages_are_as_spelt}
 

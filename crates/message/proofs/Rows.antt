@@ -1,7 +1,7 @@
 -- Messages one after another.
-use Rattle.std.proofs.Common.{◌≡◌, ℕ, zero, suc, ◌+◌, ◌-◌, ◌<◌, ◌≤◌, min, true, false, cond, leb, List, [], ◌∷◌, ◌++◌, map, length, take, drop, set, Some, None, Option, sym, refl, ap, ◌∙◌, subst, append_assoc, append-nil, arith, length-append, length-set, length-take-le, take_all, le-leb}
+use Rattle.std.proofs.Common.{◌≡◌, ℕ, zero, suc, ◌+◌, ◌-◌, ◌<◌, ◌≤◌, min, List, [], ◌∷◌, ◌++◌, map, length, take, drop, set, Some, None, Option, sym, refl, ap, ◌∙◌, append_assoc, append-nil, arith, length-append, length-set, length-take-le, take_all, le-leb}
 use native.Mathlib.Nat.{min-eq_left, min-eq_right}
-use lib.Seq.{take-append-le, drop-append-le}
+use lib.Seq.{take-append-le}
 use borrow.Author.Tests.{lt-leb}
 use Rattle.std.proofs.lemmas.List.{take_more_set, drop-set-lt, map-append, length-map, drop-drop}
 use Rattle.encoding.specs.declared.fault.WireFault.{WireFault}

@@ -1,17 +1,16 @@
 -- Messages that are sent into a sink.
-use Rattle.std.proofs.Common.{◌≡◌, ℕ, ◌+◌, ◌^◌, ◌<◌, ◌≤◌, List, [], ◌∷◌, ◌++◌, map, length, Ok, Err, Result, sym, refl, ap, ◌∙◌, subst, arith, length-append, lt-ltb}
+use Rattle.std.proofs.Common.{◌≡◌, ℕ, ◌^◌, ◌<◌, List, [], ◌∷◌, ◌++◌, map, length, Ok, Err, Result, sym, refl, ap, ◌∙◌, arith, length-append, lt-ltb}
 use Rattle.encoding.specs.declared.fault.WireFault.{WireFault}
 use Rattle.encoding.specs.declared.sink.BufferTooShort.{BufferTooShort}
 use Rattle.encoding.specs.declared.sink.Counter.{Counter}
 use Rattle.encoding.specs.declared.sink.Filler.{Filler}
 use Rattle.encoding.specs.declared.write.WriteFault.{WriteFault}
-use Rattle.encoding.specs.declared.write.WriteFault.TheVariants.{Short}
 use Rattle.encoding.specs.Sink.{Put}
 use Rattle.encoding.specs.TwoSinks.{room_of_counter, Counts, room_of_filler, Fills, stood}
 use Rattle.encoding.specs.Writing.{shortest, packed, Row, asked, buffer_out, row_out, counted_out, Writes, told, Sent}
 use Rattle.encoding.proofs.Exacts.{never}
 use Rattle.encoding.proofs.Fillings.{runs_count, lent_stood}
-use Rattle.encoding.proofs.Sendings.{sent_then, sent_short}
+use Rattle.encoding.proofs.Sendings.{sent_then}
 use Rattle.message.specs.Writing.{led, Written}
 
 module _ {S : Type 0} (room : S → ℕ) (step : S → ℕ → S → Type 0) where

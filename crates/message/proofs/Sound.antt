@@ -1,5 +1,5 @@
 -- Why the parts of a message can be read again.
-use Rattle.std.proofs.Common.{◌≡◌, ℕ, ◌≤◌, min, Bool, true, ◌&&◌, ltb, List, [], ◌∷◌, map, length, take, is_ok, Ok, Err, codes, Result, sym, refl, ap, ◌∙◌, subst, le_trans, arith, length-take}
+use Rattle.std.proofs.Common.{◌≡◌, ℕ, ◌≤◌, true, ◌&&◌, ltb, List, [], ◌∷◌, map, length, take, is_ok, Ok, Err, Result, refl, ap, ◌∙◌, arith, length-take}
 use native.Mathlib.Nat.{min-le_left}
 use Rattle.encoding.specs.declared.fault.WireFault.{WireFault}
 use Rattle.encoding.specs.Fields.{presence_text}
@@ -9,8 +9,7 @@ use Rattle.message.specs.declared.owned.State.{State as Own}
 use Rattle.message.specs.declared.owned.State.TheVariants.{Null, Live}
 use Rattle.message.specs.declared.update.Presence.{Presence}
 use Rattle.message.specs.Owned.{own_state, state_text}
-use Rattle.message.specs.Presence.{Entry}
-use Rattle.message.specs.Writing.{own_entry, Readable, AllReadable}
+use Rattle.message.specs.Writing.{own_entry, AllReadable}
 
 -- the entries in use are not more than their number says
 pub front_few : {X : Type 0} (n top : ℕ) (xs : List X) → n ≤ top → length (take n xs) ≤ top

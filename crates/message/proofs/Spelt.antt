@@ -1,7 +1,5 @@
 -- Messages as they are spelt, beside messages as they are read.
-use Rattle.std.proofs.Common.{◌≡◌, ℕ, zero, suc, ◌+◌, ◌-◌, ◌^◌, ◌<◌, ◌≤◌, Bool, true, false, cond, eqb, ◌⊎◌, List, [], ◌∷◌, ◌++◌, length, Ok, Err, Result, sym, refl, ap, ◌∙◌, subst, inl, inr, ⊎_elim, append_assoc, arith, length-append, ne_eqb, true-eqb, false-eqb}
-use Rattle.encoding.specs.declared.fault.WireFault.{WireFault}
-use Rattle.encoding.specs.declared.fault.WireFault.TheVariants.{UnexpectedValue}
+use Rattle.std.proofs.Common.{◌≡◌, ℕ, ◌-◌, ◌^◌, ◌<◌, ◌≤◌, Bool, true, false, eqb, ◌⊎◌, List, [], ◌++◌, Ok, sym, refl, ap, ◌∙◌, subst, inl, inr, ⊎_elim, append_assoc, arith, ne_eqb, true-eqb, false-eqb}
 use Rattle.encoding.specs.Fields.{buffer, text}
 use Rattle.encoding.specs.Reading.{Reading, thence, named}
 use Rattle.encoding.specs.Spelling.{Exactly, NumberIs, BufferIs, TextIs}

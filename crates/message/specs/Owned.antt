@@ -3,7 +3,7 @@
 --   owned_state    a state that can be kept, or why it can't
 --   state_text     the text that says a state on the wire
 --   owned_entry    an entry that can be kept, or why it can't
-use Rattle.std.specs.Prelude.{ℕ, List, take, Ok, Err, codes, Result}
+use Rattle.std.specs.Prelude.{ℕ, List, take, Ok, codes, Result}
 use Rattle.encoding.specs.declared.fault.WireFault.{WireFault}
 use Rattle.encoding.specs.Fields.{client_id, presence_text}
 use Rattle.message.specs.declared.owned.State.{State as Own}

@@ -11,7 +11,7 @@ use Rattle.state_vector.specs.VectorOut.{vector_out}
 use Rattle.message.specs.Message.{Said}
 use Rattle.message.specs.Messages.{whole, next}
 use Rattle.message.specs.Owned.{state_text}
-use Rattle.message.specs.Presence.{State, null, live, Entry, state_of, presence}
+use Rattle.message.specs.Presence.{null, live, Entry, state_of, presence}
 use Rattle.message.specs.Writing.{Told, step1, step2, update, awareness, denied, granted, query, custom, presence_out, message_out}
 
 -- the message that the bytes of a written one are, by the bytes of its parts

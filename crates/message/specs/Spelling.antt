@@ -6,13 +6,13 @@
 --   PresenceIs        a count, then so many entries
 --   Holds             what a message's buffer has to hold
 --   MessagesAreAsSpelt   messages are read exactly as they are spelt
-use Rattle.std.specs.Prelude.{◌≡◌, ℕ, ◌-◌, ◌^◌, ◌<◌, ◌≤◌, List, [], ◌∷◌, ◌++◌, codes, ◌≢◌}
+use Rattle.std.specs.Prelude.{◌≡◌, ℕ, ◌-◌, ◌^◌, ◌<◌, ◌≤◌, List, [], ◌++◌, codes, ◌≢◌}
 use Rattle.encoding.specs.Spelling.{Exactly, NumberIs, BufferIs, TextIs, ClientIs, PresenceTextIs, CountedIs}
 use Rattle.state_vector.specs.declared.vector.VectorEntry.{VectorEntry}
 use Rattle.state_vector.specs.Spelling.{VectorIs}
 use Rattle.state_vector.specs.Vector.{vector_entries}
 use Rattle.message.specs.Message.{Said, step1, step2, update, awareness, denied, granted, query, custom, message}
-use Rattle.message.specs.Messages.{Next, whole, next}
+use Rattle.message.specs.Messages.{whole, next}
 use Rattle.message.specs.Presence.{State, null, live, Entry, presence}
 
 -- a number of 8 bits, then a body

@@ -1,6 +1,6 @@
-use Rattle.std.proofs.Common.{◌≡◌, ℕ, ◌+◌, ◌-◌, ◌<◌, ◌≤◌, length, sym, refl, ap, ◌∙◌, subst, arith}
+use Rattle.std.proofs.Common.{◌≡◌, ◌+◌, ◌-◌, length, sym, ap, ◌∙◌, subst, arith}
 use Rattle.message.specs.Message.{means}
-use Rattle.message.specs.Messages.{Messages, Ending, messages, before}
+use Rattle.message.specs.Messages.{Ending, messages, before}
 use Rattle.message.proofs.Contents.{next_shorter}
 use Rattle.message.proofs.Rows.{Placing, row_from, row_start, row_whole, row_ended, row_cut, row_refused, placing_none, placing_more, placing_ends, placing_full}
 use Rattle.message.proofs.messages.read_messages.Goals as goal

@@ -1,5 +1,4 @@
-use Rattle.std.proofs.Common.{sym, ap, ◌∙◌, arith, false-eqb}
-use Rattle.message.specs.Messages.{judged}
+use Rattle.std.proofs.Common.{sym, ◌∙◌, arith, false-eqb}
 use Rattle.message.specs.Message.{means}
 use Rattle.message.proofs.Nexts.{next_judged}
 use Rattle.message.proofs.messages.read_next.Goals as goal

@@ -1,7 +1,7 @@
-use Rattle.std.proofs.Common.{◌≡◌, ℕ, ◌^◌, ◌<◌, List, ◌++◌, length, Ok, Err, sym, ap, ◌∙◌, subst, arith}
+use Rattle.std.proofs.Common.{ℕ, ◌^◌, ◌<◌, List, ◌++◌, length, Ok, Err, sym, ap, ◌∙◌, subst, arith}
 use Rattle.std.proofs.lemmas.Result.{err_from_is_err_and}
 use Rattle.encoding.specs.Sink.{Put}
-use Rattle.encoding.specs.Writing.{shortest, packed, buffer_out, Writes, told, Sent}
+use Rattle.encoding.specs.Writing.{shortest, packed, buffer_out, Writes, told}
 use Rattle.encoding.proofs.Sendings.{sent_then, sent_short}
 use Rattle.message.specs.Owned.{own_state, state_text}
 use Rattle.message.proofs.Keeping.{text_short}
