@@ -65,7 +65,8 @@ row_is (e ∷ es) f =
 pub counts_are : (es : List Count) → length es ≤ 64 → all_pass keepable es ≡ true → CountsAre es (counted_out count_out es)
 counts_are es few f = (shortest (length es), row_out count_out es, refl, count_is 32 (length es) (omega arith) few, row_is es f)
 
-parts : (e : Count) → keepable e ≡ true → (e.client < 2 ^ 53) × (0 < e.count) × (e.count < 2 ^ 32)
+-- what a count that may be held has
+pub parts : (e : Count) → keepable e ≡ true → (e.client < 2 ^ 53) × (0 < e.count) × (e.count < 2 ^ 32)
 parts e f =
     let q = and_parts (nat_lt e.client (2 ^ 53)) (nat_lt 0 e.count && nat_lt e.count (2 ^ 32)) f in
     let r = and_parts (nat_lt 0 e.count) (nat_lt e.count (2 ^ 32)) q.1 in
