@@ -5,7 +5,6 @@ use Rattle.encoding.specs.declared.fault.WireFault.TheVariants.{TooManyEntries}
 use Rattle.encoding.specs.Entries.{entries}
 use Rattle.encoding.specs.Reading.{Reading}
 use Rattle.encoding.specs.Writing.{shortest, counted_out}
-use Rattle.encoding.proofs.Backs.{number_is, client_is}
 use Rattle.encoding.proofs.Counted.{counted_came, entries_long}
 use Rattle.encoding.proofs.Exacts.{test_passes}
 use Rattle.encoding.proofs.Shortest.{length_shortest}
@@ -22,7 +21,8 @@ use Rattle.joined_tables.proofs.Lengths.{counted_long}
 use Rattle.joined_tables.proofs.Mapping.{ascends_seen, below_seen}
 use Rattle.boards.specs.declared.count.Count.{Count}
 use Rattle.boards.specs.CountBoard.{client_of, outranks, keepable, board, count_in, counts_in, count_out, as_vector, given, is_news, news_for}
-use Rattle.boards.specs.Counts.{counts_order, counts_decided, exact_count_entry, parts}
+use Rattle.boards.specs.Counts.{counts_order, counts_decided, parts}
+use Rattle.boards.specs.ReadBack.{count_back}
 
 -- a count is written as at most 20 bytes
 short : (e : Count) → keepable e ≡ true → length (count_out e) ≤ 64
@@ -54,9 +54,7 @@ count_fair = record {
   same_client = λ x. refl;
   ids = λ x f. (parts x f).0;
   clocks = λ x f. (parts x f).2;
-  reads_back = λ x rest f.
-      let p = parts x f in
-      exact_count_entry.spelt_is_taken x (count_out x) rest (shortest x.client, shortest x.count, refl, client_is x.client p.0, number_is (2 ^ 32 - 1) x.count (omega arith) (omega arith));
+  reads_back = count_back;
   short = short;
   old_news = λ x v o f same old. old_news x o (clock_of x.client v) f same old;
 }

@@ -1,3 +1,4 @@
 pub mod ByteOrder
 pub mod CountRows
+pub mod CountsSpelt
 pub mod Slots
