@@ -1,5 +1,5 @@
 -- Counts as the rows of a table kind, and what is said of an update of them.
-use Rattle.std.proofs.Common.{◌≡◌, ℕ, ◌-◌, ◌^◌, ◌<◌, ◌≤◌, true, false, ◌&&◌, leb, nat_lt, List, [], ◌∷◌, ◌++◌, map, length, Some, None, Ok, Err, is_ok, filter, Option, sym, refl, ap, ◌∙◌, subst, arith, length-append}
+use Rattle.std.proofs.Common.{◌≡◌, ℕ, ◌^◌, ◌<◌, ◌≤◌, true, false, leb, nat_lt, List, [], ◌∷◌, map, length, Some, None, Ok, Err, is_ok, filter, Option, sym, refl, ap, ◌∙◌, arith, length-append}
 use Rattle.std.proofs.lemmas.Bool.{true≢false, and_parts, ltb-false, le-ltb, leb-true}
 use Rattle.encoding.specs.declared.fault.WireFault.TheVariants.{TooManyEntries}
 use Rattle.encoding.specs.Entries.{entries}

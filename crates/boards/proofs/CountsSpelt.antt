@@ -1,5 +1,5 @@
 -- Counts are read exactly where the bytes spell them.
-use Rattle.std.proofs.Common.{◌≡◌, ℕ, ◌-◌, ◌^◌, ◌<◌, ◌≤◌, true, ◌&&◌, nat_lt, List, [], ◌∷◌, length, refl, subst, arith}
+use Rattle.std.proofs.Common.{◌≡◌, ℕ, ◌-◌, ◌^◌, ◌≤◌, true, ◌&&◌, nat_lt, List, [], ◌∷◌, length, refl, subst, arith}
 use Rattle.std.proofs.lemmas.Bool.{and_parts, ltb-true}
 use Rattle.encoding.specs.Spelling.{Exactly, NumberIs, ClientIs, RowIs}
 use Rattle.encoding.specs.Writing.{shortest, row_out, counted_out}

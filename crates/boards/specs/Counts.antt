@@ -1,19 +1,19 @@
 -- The laws of count boards.
-use Rattle.std.specs.Prelude.{◌≡◌, ℕ, ◌-◌, ◌^◌, ◌<◌, ◌≤◌, Bool, true, false, cond, ◌&&◌, ◌||◌, List, [], ◌∷◌, ◌++◌, map, length, Some, None, Ok, Err, filter, Option, nat_lt, refl}
-use Rattle.std.proofs.Common.{take, sym, ap, subst, ◌∙◌, ⊎_elim, length-take, arith}
+use Rattle.std.specs.Prelude.{◌≡◌, ℕ, ◌^◌, ◌<◌, ◌≤◌, true, false, ◌&&◌, List, map, length, Some, None, Option, nat_lt, refl}
+use Rattle.std.proofs.Common.{take, ap, subst, ◌∙◌, ⊎_elim, length-take, arith}
 use Rattle.std.proofs.lemmas.List.{length-map}
-use Rattle.std.proofs.lemmas.Bool.{and_left, and_right, ltb-true, ltb-false, lt-ltb, le-ltb, and_parts, and_from, or_left, or_right, cases_lt, cases_eq, cond-true, cond-false, eq-eqb, ne_eqb}
+use Rattle.std.proofs.lemmas.Bool.{and_left, and_right, ltb-true, ltb-false, lt-ltb, le-ltb, and_parts, and_from, or_left, or_right, cases_lt}
 use Rattle.state_vector.specs.declared.vector.VectorEntry.{VectorEntry}
-use Rattle.state_vector.specs.Tables.{Order, all_above, all_below, ascends, held}
+use Rattle.state_vector.specs.Tables.{Order, held}
 use Rattle.state_vector.specs.Vector.{clock_in, clock_of}
 use Rattle.state_vector.specs.Vector.{client_of as vector_client}
 use Rattle.state_vector.proofs.Keys.{held_key}
-use Rattle.joined_tables.specs.Joined.{Sound, Decided, HeldOff, Covers, all_pass, sound, none, gather}
+use Rattle.joined_tables.specs.Joined.{Decided, HeldOff, Covers, all_pass, sound, none, gather}
 use Rattle.joined_tables.proofs.Arriving.{table_is}
 use Rattle.joined_tables.proofs.Gathering.{joins_lawful, up, pass}
 use Rattle.joined_tables.proofs.Mapping.{seen, held_passes, below_seen, ascends_seen, held_seen}
 use Rattle.joined_tables.proofs.Choosing.{choices_bring, few_kept, pass_kept}
-use Rattle.document.specs.Kind.{Kind, Writable, Brings, Lawful}
+use Rattle.document.specs.Kind.{Brings, Lawful}
 use Rattle.boards.specs.declared.count.Count.{Count}
 use Rattle.boards.specs.CountBoard.{client_of, outranks, keepable, Board, board, board_of, as_vector, given, is_news, news_for, counts}
 use Rattle.boards.specs.ReadBack.{counts_back}

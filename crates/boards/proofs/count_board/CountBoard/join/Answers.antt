@@ -1,4 +1,4 @@
-use Rattle.std.proofs.Common.{◌≡◌, ◌+◌, ◌-◌, ◌≤◌, true, false, leb, length, take, sym, ap, ◌∙◌, arith, length-take}
+use Rattle.std.proofs.Common.{◌+◌, ◌-◌, ◌≤◌, leb, length, take, sym, ap, ◌∙◌, arith, length-take}
 use Rattle.std.proofs.lemmas.Bool.{true≢false, leb-false, le-leb, lt-leb}
 use Rattle.encoding.specs.Entries.{entries}
 use Rattle.joined_tables.specs.Joined.{enter, gathered}

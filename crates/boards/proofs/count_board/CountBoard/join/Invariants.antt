@@ -11,5 +11,5 @@ invariant-loop-i l =
     let left = wholly (entries count_in (l.update.count - l._i) l.rest) in
     record {
       readable : is_ok left ≡ true;
-      same : gathered client_of outranks keepable (board (take l.self.len l.self.counts)) left ≡ gathered client_of outranks keepable (board (take l.initial.self.len l.initial.self.counts)) (wholly (entries count_in l.update.count l.update.counts.now))
+      same : gathered client_of outranks keepable (board (take l.self.len l.self.counts)) left ≡ gathered client_of outranks keepable (board (take l.initial.self.len l.initial.self.counts)) (wholly (entries count_in l.update.count l.update.counts.now));
     }
