@@ -1,7 +1,7 @@
 -- The order of rows of bytes.
 use Rattle.std.proofs.Common.{◌≡◌, ℕ, ◌+◌, ◌<◌, ◌≤◌, Bool, true, false, ◌&&◌, ◌||◌, eqb, ltb, List, [], ◌∷◌, length, get_or, drop, sym, refl, ap, ◌∙◌, ⊎_elim, arith}
 use Rattle.std.proofs.lemmas.List.{drop_more, drop_all}
-use Rattle.std.proofs.lemmas.Bool.{true≢false, false≢true, both_ways, ltb-true, lt-ltb, le-ltb, eq-eqb, ne_eqb, cases_order, cases_lt, cases_Bool, or_left, or_right, or_cases, and_left}
+use Rattle.std.proofs.lemmas.Bool.{true≢false, false≢true, both_ways, lt-ltb, le-ltb, eq-eqb, ne_eqb, cases_order, cases_lt, or_left, or_right}
 use Rattle.boards.specs.SlotBoard.{later}
 
 or_no : (b : Bool) → (b || false) ≡ b

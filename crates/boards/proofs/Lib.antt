@@ -1,2 +1,4 @@
 pub mod ByteOrder
+pub mod CountRows
+pub mod CountsSpelt
 pub mod Slots

@@ -1,8 +1,7 @@
 -- The laws of slot boards.
-use Rattle.std.proofs.Common.{◌≡◌, ℕ, ◌-◌, ◌^◌, ◌<◌, ◌≤◌, Bool, true, false, cond, ◌&&◌, ◌||◌, eqb, ltb, leb, List, [], ◌∷◌, ◌++◌, map, length, Some, None, Ok, Err, filter, Option, sym, refl, ap, ◌∙◌, subst, ⊎_elim, arith}
+use Rattle.std.proofs.Common.{◌≡◌, ℕ, ◌-◌, ◌^◌, ◌<◌, ◌≤◌, true, ◌&&◌, ltb, leb, List, [], ◌∷◌, ◌++◌, map, length, Some, None, Option, refl, ap, ◌∙◌, subst, arith}
 use lib.ListN.{length-map}
-use Rattle.std.proofs.lemmas.Bool.{leb-true, leb-false, le-leb, ltb-true, ltb-false, lt-ltb, le-ltb, and_parts, and_from, or_left, or_right, or_from, and_left, cases_lt, cases_eq, cond-true, cond-false, eq-eqb, ne_eqb}
-use Rattle.encoding.specs.Entries.{entries}
+use Rattle.std.proofs.lemmas.Bool.{leb-true, leb-false, le-leb, ltb-true, lt-ltb, le-ltb, and_parts, or_from, and_left, cond-true, ne_eqb}
 use Rattle.encoding.specs.Fields.{buffer, client_id_in}
 use Rattle.encoding.specs.Reading.{thence, named}
 use Rattle.encoding.specs.Spelling.{Exactly, NumberIs, BufferIs, ClientIs, RowIs}
@@ -11,16 +10,16 @@ use Rattle.encoding.specs.Writing.{shortest, packed, row_out, counted_out}
 use Rattle.encoding.proofs.Backs.{number_is, buffer_is, client_is, count_is}
 use Rattle.encoding.proofs.Exacts.{Then, exact_thence, exact_named, exact_as, exact_number, exact_buffer, exact_client_id, exact_passed, exact_counted, test_passes}
 use Rattle.state_vector.specs.declared.vector.VectorEntry.{VectorEntry}
-use Rattle.state_vector.specs.Tables.{Order, all_above, all_below, ascends, held}
+use Rattle.state_vector.specs.Tables.{Order, held}
 use Rattle.state_vector.specs.Vector.{clock_in, clock_of}
 use Rattle.state_vector.specs.Vector.{client_of as vector_client}
 use Rattle.state_vector.proofs.Keys.{held_key}
-use Rattle.joined_tables.specs.Joined.{Sound, Decided, HeldOff, Covers, all_pass, none, gather}
+use Rattle.joined_tables.specs.Joined.{Decided, HeldOff, Covers, all_pass, none, gather}
 use Rattle.joined_tables.proofs.Gathering.{joins_lawful, up, pass}
-use Rattle.joined_tables.proofs.Mapping.{seen, held_passes, below_seen, ascends_seen, held_seen}
+use Rattle.joined_tables.proofs.Mapping.{seen, below_seen, ascends_seen, held_seen}
 use Rattle.joined_tables.proofs.Choosing.{choices_bring, few_kept, pass_kept}
-use Rattle.document.specs.Kind.{Kind, Writable, Brings, Lawful}
-use Rattle.boards.specs.SlotBoard.{Plain, later, client_of, outranks, keepable, Board, slot_clock, slot_bytes, slot_clock_in, slot_bytes_in, slot_in, slots_in, board_of, slot_out, as_vector, given, is_news, news_for, slots, SlotIs, SlotsAre}
+use Rattle.document.specs.Kind.{Brings, Lawful}
+use Rattle.boards.specs.SlotBoard.{Plain, client_of, outranks, keepable, Board, slot_clock, slot_bytes, slot_clock_in, slot_bytes_in, slot_in, slots_in, board_of, slot_out, as_vector, given, is_news, news_for, slots, SlotIs, SlotsAre}
 use Rattle.boards.proofs.ByteOrder.{later_irreflexive, later_asymmetric, later_third, later_decided}
 use Rattle.joined_tables.proofs.Wholes.{spelt_wholly}
 

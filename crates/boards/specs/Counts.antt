@@ -1,28 +1,22 @@
 -- The laws of count boards.
-use Rattle.std.specs.Prelude.{◌≡◌, ℕ, ◌-◌, ◌^◌, ◌<◌, ◌≤◌, Bool, true, false, cond, ◌&&◌, ◌||◌, List, [], ◌∷◌, ◌++◌, map, length, Some, None, Ok, Err, filter, Option, nat_lt, refl}
-use Rattle.std.proofs.Common.{sym, ap, subst, ◌∙◌, ⊎_elim, arith}
+use Rattle.std.specs.Prelude.{◌≡◌, ℕ, ◌^◌, ◌<◌, ◌≤◌, true, false, ◌&&◌, List, map, length, Some, None, Option, nat_lt, refl}
+use Rattle.std.proofs.Common.{take, ap, subst, ◌∙◌, ⊎_elim, length-take, arith}
 use Rattle.std.proofs.lemmas.List.{length-map}
-use Rattle.std.proofs.lemmas.Bool.{and_left, and_right, ltb-true, ltb-false, lt-ltb, le-ltb, and_parts, and_from, or_left, or_right, cases_lt, cases_eq, cond-true, cond-false, eq-eqb, ne_eqb}
-use Rattle.encoding.specs.Entries.{entries}
-use Rattle.encoding.specs.Reading.{named}
-use Rattle.encoding.specs.Spelling.{Exactly, NumberIs, ClientIs, RowIs}
-use Rattle.encoding.specs.VarUint.{var_uint}
-use Rattle.encoding.specs.Writing.{shortest, row_out, counted_out}
-use Rattle.encoding.proofs.Backs.{number_is, client_is, count_is}
-use Rattle.encoding.proofs.Exacts.{Then, exact_thence, exact_named, exact_as, exact_number, exact_client_id, exact_counted}
+use Rattle.std.proofs.lemmas.Bool.{and_left, and_right, ltb-true, ltb-false, lt-ltb, le-ltb, and_parts, and_from, or_left, or_right, cases_lt}
 use Rattle.state_vector.specs.declared.vector.VectorEntry.{VectorEntry}
-use Rattle.state_vector.specs.Tables.{Order, all_above, all_below, ascends, held}
+use Rattle.state_vector.specs.Tables.{Order, held}
 use Rattle.state_vector.specs.Vector.{clock_in, clock_of}
 use Rattle.state_vector.specs.Vector.{client_of as vector_client}
 use Rattle.state_vector.proofs.Keys.{held_key}
-use Rattle.joined_tables.specs.Joined.{Sound, Decided, HeldOff, Covers, all_pass, none, gather}
+use Rattle.joined_tables.specs.Joined.{Decided, HeldOff, Covers, all_pass, sound, none, gather}
+use Rattle.joined_tables.proofs.Arriving.{table_is}
 use Rattle.joined_tables.proofs.Gathering.{joins_lawful, up, pass}
 use Rattle.joined_tables.proofs.Mapping.{seen, held_passes, below_seen, ascends_seen, held_seen}
 use Rattle.joined_tables.proofs.Choosing.{choices_bring, few_kept, pass_kept}
-use Rattle.document.specs.Kind.{Kind, Writable, Brings, Lawful}
+use Rattle.document.specs.Kind.{Brings, Lawful}
 use Rattle.boards.specs.declared.count.Count.{Count}
-use Rattle.boards.specs.CountBoard.{client_of, outranks, keepable, Board, count_in, counts_in, board_of, count_out, as_vector, given, is_news, news_for, counts, CountIs, CountsAre}
-use Rattle.joined_tables.proofs.Wholes.{spelt_wholly}
+use Rattle.boards.specs.CountBoard.{client_of, outranks, keepable, Board, board, board_of, as_vector, given, is_news, news_for, counts}
+use Rattle.boards.specs.ReadBack.{counts_back}
 
 -- which count stands above which is an order
 pub counts_order : Order outranks
@@ -39,33 +33,8 @@ counts_decided x y k f g =
     let same : x.count ≡ y.count = omega arith in
     ap (λ c. record { client = c; count = x.count }) k ∙ ap (λ n. record { client = y.client; count = n }) same
 
--- a count is read exactly where the bytes spell it
-pub exact_count_entry : Exactly count_in CountIs
-exact_count_entry = exact_as (exact_thence _ _ exact_client_id (λ id. exact_named (λ n. record { client = id; count = n }) _ (exact_number (2 ^ 32 - 1)))) there back
-  where
-    there : (e : Count) (bs : List ℕ) → Then ClientIs (λ id y b. (n : ℕ) × (record { client = id; count = n } ≡ y) × NumberIs (2 ^ 32 - 1) n b) e bs → CountIs e bs
-    there e bs (id, a, b, i, p, (n, j, q)) = (a, b, i, subst (λ (y : Count). ClientIs y.client a) j p, subst (λ (y : Count). NumberIs (2 ^ 32 - 1) y.count b) j q)
-
-    back : (e : Count) (bs : List ℕ) → CountIs e bs → Then ClientIs (λ id y b. (n : ℕ) × (record { client = id; count = n } ≡ y) × NumberIs (2 ^ 32 - 1) n b) e bs
-    back e bs (a, b, i, p, q) = (e.client, a, b, i, p, (e.count, refl, q))
-
-pub exact_counts : Exactly counts_in CountsAre
-exact_counts = exact_counted 32 count_in CountIs exact_count_entry
-
--- what is written of counts spells them
-row_is : (es : List Count) → all_pass keepable es ≡ true → RowIs CountIs es (row_out count_out es)
-row_is [] f = refl
-row_is (e ∷ es) f =
-    let p = and_parts (keepable e) (all_pass keepable es) f in
-    let q = and_parts (nat_lt e.client (2 ^ 53)) (nat_lt 0 e.count && nat_lt e.count (2 ^ 32)) p.0 in
-    let c = ltb-true e.client (2 ^ 53) q.0 in
-    let n = ltb-true e.count (2 ^ 32) (and_parts (nat_lt 0 e.count) (nat_lt e.count (2 ^ 32)) q.1).1 in
-    (count_out e, row_out count_out es, refl, (shortest e.client, shortest e.count, refl, client_is e.client c, number_is (2 ^ 32 - 1) e.count (omega arith) (omega arith)), row_is es p.1)
-
-pub counts_are : (es : List Count) → length es ≤ 64 → all_pass keepable es ≡ true → CountsAre es (counted_out count_out es)
-counts_are es few f = (shortest (length es), row_out count_out es, refl, count_is 32 (length es) (omega arith) few, row_is es f)
-
-parts : (e : Count) → keepable e ≡ true → (e.client < 2 ^ 53) × (0 < e.count) × (e.count < 2 ^ 32)
+-- what a count that may be held has
+pub parts : (e : Count) → keepable e ≡ true → (e.client < 2 ^ 53) × (0 < e.count) × (e.count < 2 ^ 32)
 parts e f =
     let q = and_parts (nat_lt e.client (2 ^ 53)) (nat_lt 0 e.count && nat_lt e.count (2 ^ 32)) f in
     let r = and_parts (nat_lt 0 e.count) (nat_lt e.count (2 ^ 32)) q.1 in
@@ -91,7 +60,7 @@ brings d e small =
     let few : length news ≤ 64 = omega (arith, few_kept client_of (is_news (counts.vector e)) d.0) in
     record {
       brought = gather client_of outranks keepable (none client_of outranks keepable) news;
-      readable = ap board_of (spelt_wholly exact_counts news (counted_out count_out news) (counts_are news few fine));
+      readable = ap board_of (counts_back news few fine);
       enough = (choices_bring client_of outranks keepable).enough (is_news (counts.vector e)) d e (covers d e);
     }
 
@@ -113,6 +82,10 @@ counts_lawful =
         clocks = below_seen keepable as_vector (λ (v : VectorEntry). v.clock) (2 ^ 32) (λ x f. (parts x f).2) d.0 (pass client_of outranks keepable d);
       };
     }
+
+-- a board with at most 64 counts is within the limit
+pub board_within : (len : ℕ) (xs : List Count) → len ≤ 64 → sound client_of keepable (take len xs) ≡ true → length (board (take len xs)).0 ≤ 64
+board_within len xs few s = omega (arith, ap length (table_is client_of outranks keepable (take len xs) s), length-take len xs)
 
 -- a count that may be held, and one that may not
 pub kept_if : (e : Count) → e.client < 2 ^ 53 → 0 < e.count → e.count < 2 ^ 32 → keepable e ≡ true

@@ -1,3 +1,4 @@
 pub mod CountBoard
 pub mod SlotBoard
 pub mod Counts
+pub mod ReadBack

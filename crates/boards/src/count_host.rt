@@ -1,9 +1,7 @@
 // The count board as a host of documents.
-ghost use Rattle.std.specs.Prelude.{◌≡◌, length, take};
-ghost use Rattle.std.proofs.Common.{ap, length-take, arith};
-ghost use Rattle.boards.specs.CountBoard.{counts, board, client_of, outranks, keepable};
-ghost use Rattle.boards.specs.Counts.{counts_lawful};
-ghost use Rattle.joined_tables.proofs.Arriving.{table_is};
+ghost use Rattle.std.specs.Prelude.{take};
+ghost use Rattle.boards.specs.CountBoard.{counts, board};
+ghost use Rattle.boards.specs.Counts.{counts_lawful, board_within};
 
 use crate::count_board::CountBoard;
 use crate::count_out::NewCounts;
@@ -26,7 +24,7 @@ impl DocumentHost for CountBoard {
 
     ghost lawful = { counts_lawful };
 
-    ghost within = { λ h. omega (arith, ap length (table_is client_of outranks keepable (take h.len h.counts) h.sound), length-take h.len h.counts, h.fits) };
+    ghost within = { λ h. board_within h.len h.counts h.fits h.sound };
 
     fn new() -> CountBoard {
         CountBoard::empty()

@@ -1,11 +1,11 @@
 -- What taking updates comes to, from the laws of a kind.
-use Rattle.std.proofs.Common.{◌≡◌, ℕ, ◌<◌, ◌≤◌, Bool, true, false, cond, leb, List, Ok, Err, Result, sym, refl, ap, ◌∙◌, subst, arith}
+use Rattle.std.proofs.Common.{◌≡◌, ℕ, ◌≤◌, Bool, true, false, cond, leb, Ok, Err, Result, sym, refl, ap, ◌∙◌, subst, arith}
 use Rattle.std.proofs.lemmas.Bool.{leb-true, le-leb, cond-true}
 use Rattle.encoding.specs.declared.fault.WireFault.{WireFault}
 use Rattle.document.specs.declared.fault.DocumentFault.{DocumentFault}
-use Rattle.document.specs.declared.fault.DocumentFault.TheVariants.{Unreadable, TooLarge}
+use Rattle.document.specs.declared.fault.DocumentFault.TheVariants.{TooLarge}
 use Rattle.document.specs.Kind.{Kind, Lawful}
-use Rattle.document.specs.Taking.{answer_to, after, accepts, taken, TakingTwiceIsTakingOnce, HandedOver, ExchangesJoin}
+use Rattle.document.specs.Taking.{answer_to, after, accepts, taken, TakingTwiceIsTakingOnce, ExchangesJoin}
 
 module _ (k : Kind) (limit : ℕ) where
   -- an update that was accepted was read, and its join is within the limit and is the document then

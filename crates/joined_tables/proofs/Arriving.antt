@@ -1,11 +1,11 @@
 -- Entries that come to a table one after another, as a program brings them.
-use Rattle.std.proofs.Common.{◌≡◌, ℕ, ◌+◌, ◌≤◌, Bool, true, false, cond, ◌&&◌, T, eqb, ltb, List, [], ◌∷◌, length, Some, None, Option, sym, refl, ap, ◌∙◌, subst, ⊎_elim, arith}
+use Rattle.std.proofs.Common.{◌≡◌, ℕ, ◌+◌, ◌≤◌, Bool, true, false, T, List, [], ◌∷◌, length, Some, None, Option, sym, refl, ap, ◌∙◌, subst, ⊎_elim, arith}
 use Rattle.std.proofs.lemmas.Bool.{true≢false, both_ways, and_parts, cases_Bool, cases_eq, cond-true, cond-false}
 use Rattle.state_vector.specs.Tables.{Order, ascends, entered, held, raised}
 use Rattle.state_vector.proofs.Entering.{held_other, held_own, length_entered, length_kept}
 use Rattle.state_vector.proofs.Keys.{same_rows}
 use Rattle.joined_tables.specs.Joined.{passing, all_pass, sound, Sound, admit, none, enter, gather, joined, table, Decided}
-use Rattle.joined_tables.proofs.Gathering.{up, pass, same_table, enter_fine, joins_lawful}
+use Rattle.joined_tables.proofs.Gathering.{up, same_table, enter_fine, joins_lawful}
 use Rattle.joined_tables.proofs.Mapping.{held_passes}
 
 -- a table that is admitted, and one that is not

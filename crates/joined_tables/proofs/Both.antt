@@ -1,5 +1,5 @@
 -- Of two entries that are perhaps held, the one that stands highest.
-use Rattle.std.proofs.Common.{◌≡◌, ℕ, Bool, true, false, cond, ◌||◌, Some, None, Option, sym, refl, ap, ◌∙◌, ⊎_elim}
+use Rattle.std.proofs.Common.{◌≡◌, ℕ, Bool, true, false, Some, None, Option, sym, refl, ap, ◌∙◌, ⊎_elim}
 use Rattle.std.proofs.lemmas.Bool.{true≢false, cases_Bool, cond-true, cond-false, or_cases}
 use Rattle.state_vector.specs.Tables.{Order, better, raised}
 use Rattle.joined_tables.specs.Joined.{Decided}

@@ -1,9 +1,9 @@
 -- A choice among the entries of a table, and what it brings to another.
-use Rattle.std.proofs.Common.{◌≡◌, ℕ, ◌≤◌, Bool, true, false, cond, ◌&&◌, ltb, List, [], ◌∷◌, length, Some, None, filter, Option, sym, refl, ap, ◌∙◌, ⊎_elim, arith}
-use Rattle.std.proofs.lemmas.Bool.{and_parts, and_from, cases_Bool, cases_eq, cond-false}
-use Rattle.state_vector.specs.Tables.{all_above, ascends, held, row}
+use Rattle.std.proofs.Common.{◌≡◌, ℕ, ◌≤◌, Bool, true, false, cond, ltb, List, [], ◌∷◌, length, Some, None, filter, Option, sym, refl, ap, ◌∙◌, ⊎_elim, arith}
+use Rattle.std.proofs.lemmas.Bool.{and_parts, and_from, cases_eq, cond-false}
+use Rattle.state_vector.specs.Tables.{all_above, ascends, held}
 use Rattle.state_vector.proofs.Keys.{none_above, same_rows, skip, stop}
-use Rattle.joined_tables.specs.Joined.{all_pass, sound, Sound, none, gather, joined, HeldOff, Covers, ChoicesBringAll}
+use Rattle.joined_tables.specs.Joined.{all_pass, none, gather, HeldOff, ChoicesBringAll}
 use Rattle.joined_tables.proofs.Both.{both}
 use Rattle.joined_tables.proofs.Gathering.{up, pass, gather_row, held_row, held_joined, by_look_ups}
 

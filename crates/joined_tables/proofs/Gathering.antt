@@ -1,12 +1,12 @@
 -- Tables gathered from rows of entries, look-up by look-up.
-use Rattle.std.proofs.Common.{◌≡◌, ℕ, Bool, true, false, cond, ◌&&◌, T, eqb, ltb, List, [], ◌∷◌, Some, None, Option, sym, refl, ap, ◌∙◌, subst, ⊎_elim}
+use Rattle.std.proofs.Common.{◌≡◌, ℕ, Bool, true, false, cond, T, eqb, ltb, List, [], ◌∷◌, Some, None, Option, sym, refl, ap, ◌∙◌, subst, ⊎_elim}
 use mathlib.Core.HLevel.{Σ_prop_path}
 use lib.Dec.{T_prop}
-use Rattle.std.proofs.lemmas.Bool.{true≢false, and_parts, and_from, cases_Bool, cases_eq, cond-true, cond-false}
-use Rattle.state_vector.specs.Tables.{Order, all_above, ascends, better, entered, held, raised, row}
+use Rattle.std.proofs.lemmas.Bool.{true≢false, and_parts, and_from, cases_eq}
+use Rattle.state_vector.specs.Tables.{Order, all_above, ascends, entered, held, row}
 use Rattle.state_vector.proofs.Entering.{ascends_entered, held_other, held_own}
 use Rattle.state_vector.proofs.Keys.{held_key, none_above, same_rows, skip, stop}
-use Rattle.joined_tables.specs.Joined.{passing, all_pass, sound, Sound, admit, none, enter, gather, joined, Decided, JoinsAreLawful}
+use Rattle.joined_tables.specs.Joined.{passing, all_pass, sound, Sound, none, enter, gather, joined, Decided, JoinsAreLawful}
 use Rattle.joined_tables.proofs.Both.{both, raised_is, At, same_twice, either_way, of_three}
 
 pub holds : (b : Bool) → T b → b ≡ true

@@ -1,10 +1,10 @@
 -- Entries that are offered to a table with so many places.
-use Rattle.std.proofs.Common.{◌≡◌, ℕ, ◌+◌, ◌<◌, ◌≤◌, Bool, true, false, cond, ◌&&◌, leb, List, length, is_some, Some, None, Option, sym, refl, ap, ◌∙◌, subst, ⊎_elim, arith}
-use Rattle.std.proofs.lemmas.Bool.{true≢false, and_parts, and_from, le-leb, lt-leb, leb-true, leb-false, cases_lt, cases_Bool, cond-true, cond-false}
+use Rattle.std.proofs.Common.{◌≡◌, ℕ, ◌<◌, ◌≤◌, Bool, true, false, cond, leb, List, length, is_some, Some, None, Option, sym, refl, ap, ◌∙◌, subst, ⊎_elim, arith}
+use Rattle.std.proofs.lemmas.Bool.{and_parts, and_from, le-leb, lt-leb, leb-true, cases_lt, cond-false}
 use Rattle.state_vector.specs.declared.keyed.Outcome.{Outcome}
 use Rattle.state_vector.specs.declared.keyed.Outcome.TheVariants.{Inserted, Replaced, Kept, Full}
 use Rattle.state_vector.specs.Tables.{answer, ascends, entered, full, held, offered, outcome}
-use Rattle.state_vector.proofs.Entering.{ascends_entered, entered_held, length_new, length_kept}
+use Rattle.state_vector.proofs.Entering.{ascends_entered, length_new}
 use Rattle.joined_tables.specs.Joined.{all_pass, sound, Sound, enter, table}
 use Rattle.joined_tables.proofs.Arriving.{enter_table, table_is}
 use Rattle.joined_tables.proofs.Gathering.{pass_entered}

@@ -1,5 +1,5 @@
 -- How many entries a table has after one came.
-use Rattle.std.proofs.Common.{◌≡◌, ℕ, suc, ◌<◌, Bool, true, false, cond, List, [], ◌∷◌, length, Some, None, sym, refl, ap, ◌∙◌, ⊎_elim, arith}
+use Rattle.std.proofs.Common.{◌≡◌, ℕ, suc, ◌<◌, Bool, true, List, [], ◌∷◌, length, Some, None, sym, ap, ◌∙◌, ⊎_elim, arith}
 use Rattle.std.proofs.lemmas.Bool.{and_parts, cases_order, cond-true, cond-false, lt-ltb, le-ltb, eq-eqb}
 use Rattle.state_vector.specs.Tables.{all_above, ascends, better, entered, held}
 use Rattle.state_vector.proofs.Keys.{above_less, none_above, skip}

@@ -1,10 +1,9 @@
 -- The laws of kinds of tables, and what taking an update comes to.
-use Rattle.std.proofs.Common.{◌≡◌, ℕ, ◌^◌, ◌<◌, ◌≤◌, Bool, true, false, cond, leb, List, [], ◌∷◌, ◌++◌, map, length, is_ok, Some, None, Ok, Err, Option, Result, sym, refl, ap, ◌∙◌, subst, append-nil, arith}
+use Rattle.std.proofs.Common.{◌≡◌, ℕ, ◌^◌, ◌<◌, ◌≤◌, true, List, [], ◌∷◌, map, length, is_ok, Some, None, Ok, Err, Option, Result, sym, refl, ap, ◌∙◌, subst, append-nil, arith}
 use lib.ListN.{length-map}
-use Rattle.std.proofs.lemmas.Bool.{true≢false, and_parts, le-leb, lt-leb, leb-true, leb-false, cond-true, cond-false}
+use Rattle.std.proofs.lemmas.Bool.{true≢false, and_parts, le-leb, lt-leb, cond-true, cond-false}
 use Rattle.encoding.specs.declared.fault.WireFault.{WireFault}
-use Rattle.encoding.specs.Fields.{count, count_in}
-use Rattle.encoding.specs.Writing.{shortest, counted_out}
+use Rattle.encoding.specs.Writing.{counted_out}
 use Rattle.encoding.proofs.Counted.{Back, Each, counted_back}
 use Rattle.encoding.proofs.Backs.{fields_read_back}
 use Rattle.state_vector.specs.declared.vector.VectorEntry.{VectorEntry}
@@ -12,11 +11,10 @@ use Rattle.state_vector.specs.Tables.{held}
 use Rattle.state_vector.specs.Vector.{clock_in, clock_of}
 use Rattle.state_vector.specs.Vector.{client_of as vector_client}
 use Rattle.state_vector.proofs.Keys.{held_key}
-use Rattle.document.specs.declared.fault.DocumentFault.{DocumentFault}
 use Rattle.document.specs.declared.fault.DocumentFault.TheVariants.{TooLarge}
-use Rattle.document.specs.Kind.{Kind, Writable, Brings, Lawful}
+use Rattle.document.specs.Kind.{Kind, Brings, Lawful}
 use Rattle.document.specs.Taking.{answer_to, after, accepts, taken}
-use Rattle.joined_tables.specs.Joined.{Covers, HeldOff, all_pass, none, gather, gathered, table}
+use Rattle.joined_tables.specs.Joined.{Covers, all_pass, none, gather, gathered}
 use Rattle.joined_tables.specs.TableKind.{Rows, Table, rows_in, table_of, news_for, table_kind, clock_held, Fair}
 use Rattle.joined_tables.specs.Whole.{wholly}
 use Rattle.joined_tables.proofs.Arriving.{gather_joins}

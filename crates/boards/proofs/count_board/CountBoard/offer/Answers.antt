@@ -22,7 +22,10 @@ invariant_of-self c =
     let xs = take c.args.self.now.len all in
     let few : length xs ≤ length all = omega (arith, length-take c.args.self.now.len all) in
     let fine = kept_if c.args.e c.requires.known (omega arith) c.requires.narrow in
-    (omega arith, (sound_offered client_of outranks keepable (length all) xs c.args.e few c.args.self.now.sound fine (take c.offer-outcome.new.self.len c.offer-outcome.new.self.entries.now) c.offer-outcome.ensures.used, tt))
+    record {
+      fits = omega arith;
+      sound = sound_offered client_of outranks keepable (length all) xs c.args.e few c.args.self.now.sound fine (take c.offer-outcome.new.self.len c.offer-outcome.new.self.entries.now) c.offer-outcome.ensures.used;
+    }
 
 pub returns-in-Full : goal.returns-in-Full
 returns-in-Full c =
