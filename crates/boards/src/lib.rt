@@ -6,3 +6,5 @@ pub mod count_board;
 pub mod count_host;
 pub mod count_out;
 pub mod count_update;
+#[cfg(test)]
+mod tests;

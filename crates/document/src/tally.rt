@@ -10,6 +10,7 @@ use encoding::sink::BufferTooShort;
 use state_vector::vector::StateVector;
 
 // The document of the host below, with two counts that stay at their end.
+#[derive(Drop)]
 pub struct Tally<H> {
     host: H,
     accepted: u32,
