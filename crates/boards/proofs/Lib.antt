@@ -1,4 +1,2 @@
 pub mod ByteOrder
-pub mod CountRows
-pub mod CountsSpelt
 pub mod Slots

@@ -1,27 +1,23 @@
 -- The laws of slot boards.
-use Rattle.std.proofs.Common.{◌≡◌, ℕ, ◌-◌, ◌^◌, ◌<◌, ◌≤◌, true, ◌&&◌, ltb, leb, List, [], ◌∷◌, ◌++◌, map, length, Some, None, Option, refl, ap, ◌∙◌, subst, arith}
-use lib.ListN.{length-map}
-use Rattle.std.proofs.lemmas.Bool.{leb-true, leb-false, le-leb, ltb-true, lt-ltb, le-ltb, and_parts, or_from, and_left, cond-true, ne_eqb}
+use Rattle.std.proofs.Common.{◌≡◌, ℕ, ◌-◌, ◌^◌, ◌<◌, ◌≤◌, true, ◌&&◌, ltb, leb, List, ◌∷◌, ◌++◌, length, Some, None, Option, refl, ap, ◌∙◌, subst, arith, length-append, nat_le, false, unwrap_or}
+use Rattle.std.proofs.lemmas.Bool.{leb-true, leb-false, le-leb, ltb-true, lt-ltb, and_parts, cond-true}
+use Rattle.std.specs.List.{list_all}
 use Rattle.encoding.specs.Fields.{buffer, client_id_in}
 use Rattle.encoding.specs.Reading.{thence, named}
-use Rattle.encoding.specs.Spelling.{Exactly, NumberIs, BufferIs, ClientIs, RowIs}
+use Rattle.encoding.specs.Spelling.{Exactly, NumberIs, BufferIs, ClientIs}
 use Rattle.encoding.specs.VarUint.{var_uint}
-use Rattle.encoding.specs.Writing.{shortest, packed, row_out, counted_out}
-use Rattle.encoding.proofs.Backs.{number_is, buffer_is, client_is, count_is}
+use Rattle.encoding.specs.Writing.{shortest, packed, counted_out}
+use Rattle.encoding.proofs.Backs.{number_is, buffer_is, client_is}
+use Rattle.encoding.proofs.Shortest.{length_shortest}
+use Rattle.joined_tables.specs.TableKind.{Fair, clock_held}
+use Rattle.joined_tables.proofs.TableLaws.{rows_spelt, tables_lawful}
 use Rattle.encoding.proofs.Exacts.{Then, exact_thence, exact_named, exact_as, exact_number, exact_buffer, exact_client_id, exact_passed, exact_counted, test_passes}
-use Rattle.state_vector.specs.declared.vector.VectorEntry.{VectorEntry}
-use Rattle.state_vector.specs.Tables.{Order, held}
-use Rattle.state_vector.specs.Vector.{clock_in, clock_of}
-use Rattle.state_vector.specs.Vector.{client_of as vector_client}
-use Rattle.state_vector.proofs.Keys.{held_key}
-use Rattle.joined_tables.specs.Joined.{Decided, HeldOff, Covers, all_pass, none, gather}
-use Rattle.joined_tables.proofs.Gathering.{joins_lawful, up, pass}
-use Rattle.joined_tables.proofs.Mapping.{seen, below_seen, ascends_seen, held_seen}
-use Rattle.joined_tables.proofs.Choosing.{choices_bring, few_kept, pass_kept}
-use Rattle.document.specs.Kind.{Brings, Lawful}
-use Rattle.boards.specs.SlotBoard.{Plain, client_of, outranks, keepable, Board, slot_clock, slot_bytes, slot_clock_in, slot_bytes_in, slot_in, slots_in, board_of, slot_out, as_vector, given, is_news, news_for, slots, SlotIs, SlotsAre}
-use Rattle.boards.proofs.ByteOrder.{later_irreflexive, later_asymmetric, later_third, later_decided}
-use Rattle.joined_tables.proofs.Wholes.{spelt_wholly}
+use Rattle.state_vector.specs.Tables.{Order}
+use Rattle.state_vector.specs.Vector.{clock_of}
+use Rattle.joined_tables.specs.Joined.{Decided, HeldOff}
+use Rattle.document.specs.Kind.{Lawful}
+use Rattle.boards.specs.SlotBoard.{Plain, client_of, outranks, keepable, slot_clock, slot_bytes, slot_clock_in, slot_bytes_in, slot_in, slots_in, slot_out, slot_rows, slots, SlotIs, SlotsAre}
+use Rattle.boards.proofs.ByteOrder.{later_order, later_decided}
 
 -- the clock before the bytes is one more place of their order
 abbrev ranked : Plain → List ℕ
@@ -30,9 +26,9 @@ ranked e = e.clock ∷ e.bytes
 -- which slot stands above which is an order
 pub slots_order : Order outranks
 slots_order = record {
-  irreflexive = λ x. later_irreflexive (ranked x);
-  asymmetric = λ x y. later_asymmetric (ranked x) (ranked y);
-  third = λ x y z. later_third (ranked x) (ranked y) (ranked z);
+  irreflexive = λ x. later_order.irreflexive (ranked x);
+  asymmetric = λ x y. later_order.asymmetric (ranked x) (ranked y);
+  third = λ x y z. later_order.third (ranked x) (ranked y) (ranked z);
 }
 
 pub slots_decided : Decided client_of outranks
@@ -86,55 +82,42 @@ parts e f =
     let t = and_parts (ltb e.clock (2 ^ 32)) (leb (length e.bytes) 32) r.1 in
     record { id = ltb-true _ _ q.0; set = ltb-true _ _ r.0; narrow = ltb-true _ _ t.0; short = leb-true _ _ t.1 }
 
--- what is written of slots spells them
-row_is : (es : List Plain) → all_pass keepable es ≡ true → RowIs SlotIs es (row_out slot_out es)
-row_is [] f = refl
-row_is (e ∷ es) f =
-    let p = and_parts (keepable e) (all_pass keepable es) f in
-    let k = parts e p.0 in
-    (slot_out e, row_out slot_out es, refl, (shortest e.client, shortest e.clock, packed e.bytes, refl, client_is e.client k.id, (number_is (2 ^ 32 - 1) e.clock (omega arith) (omega arith), k.set), (buffer_is e.bytes (omega arith), k.short)), row_is es p.1)
+-- what is written of a slot spells it
+slot_is : (e : Plain) → keepable e ≡ true → SlotIs e (slot_out e)
+slot_is e f =
+    let k = parts e f in
+    (shortest e.client, shortest e.clock, packed e.bytes, refl, client_is e.client k.id, (number_is (2 ^ 32 - 1) e.clock (omega arith) (omega arith), k.set), (buffer_is e.bytes (omega arith), k.short))
 
-pub slots_are : (es : List Plain) → length es ≤ 64 → all_pass keepable es ≡ true → SlotsAre es (counted_out slot_out es)
-slots_are es few f = (shortest (length es), row_out slot_out es, refl, count_is 32 (length es) (omega arith) few, row_is es f)
+-- a slot is written as at most 62 bytes
+short : (e : Plain) → keepable e ≡ true → length (slot_out e) ≤ 64
+short e f =
+    let k = parts e f in
+    omega (arith, length-append (shortest e.client) (shortest e.clock ++ packed e.bytes), length-append (shortest e.clock) (packed e.bytes), length-append (shortest (length e.bytes)) e.bytes, length_shortest e.client (omega arith), length_shortest e.clock (omega arith), length_shortest (length e.bytes) (omega arith))
 
--- what an update for the vector of e leaves out of d, e has at a higher clock
-covers : (d e : Board) → Covers client_of outranks keepable (is_news (slots.vector e)) d e
-covers d e c x h f =
-    let k : x.client ≡ c = held_key client_of c d.0 x h in
-    let l : x.clock < given (clock_of x.client (map as_vector e.0)) = leb-false _ _ f in
-    let v : clock_of x.client (map as_vector e.0) ≡ clock_in (seen as_vector (held client_of c e.0)) = ap (λ i. clock_of i (map as_vector e.0)) k ∙ ap clock_in (held_seen client_of vector_client as_vector (λ y. refl) c e.0) in
-    off (held client_of c e.0) (subst (λ o. x.clock < given o) v l)
-  where
-    off : (o : Option Plain) → x.clock < given (clock_in (seen as_vector o)) → HeldOff client_of outranks keepable x o
-    off None l = omega (arith, l)
-    off (Some y) l = or_from _ _ (le-ltb y.clock x.clock (omega (arith, l))) (and_left _ _ (ne_eqb x.clock y.clock (λ q. omega (arith, l))))
+-- a slot that is no news is held off by the one that the vector tells of, which is at a higher clock
+old_news : (x : Plain) (o : Option Plain) (n : Option ℕ) → n ≡ clock_held slot_rows o → nat_le (unwrap_or n 0) x.clock ≡ false → HeldOff client_of outranks keepable x o
+old_news x None n same old = absurd (omega (arith, leb-false _ _ old, ap (λ m. unwrap_or m 0) same))
+old_news x (Some y) n same old =
+    let l : x.clock < y.clock = omega (arith, leb-false _ _ old, ap (λ m. unwrap_or m 0) same) in
+    rw (lt-ltb x.clock y.clock l) refl
 
-brings : (d e : Board) → length d.0 ≤ 16 → Brings slots d e
-brings d e small =
-    let news = news_for d (slots.vector e) in
-    let fine : all_pass keepable news ≡ true = pass_kept client_of (is_news (slots.vector e)) keepable d.0 (pass client_of outranks keepable d) in
-    let few : length news ≤ 64 = omega (arith, few_kept client_of (is_news (slots.vector e)) d.0) in
-    record {
-      brought = gather client_of outranks keepable (none client_of outranks keepable) news;
-      readable = ap board_of (spelt_wholly exact_slots news (counted_out slot_out news) (slots_are news few fine));
-      enough = (choices_bring client_of outranks keepable).enough (is_news (slots.vector e)) d e (covers d e);
-    }
+-- slots owe nothing more for the laws of table kinds
+pub slot_fair : Fair slot_rows
+slot_fair = record {
+  order = slots_order;
+  decided = slots_decided;
+  same_client = λ x. refl;
+  ids = λ x f. (parts x f).id;
+  clocks = λ x f. (parts x f).narrow;
+  reads_back = λ x rest f. exact_slot.spelt_is_taken x (slot_out x) rest (slot_is x f);
+  short = short;
+  old_news = λ x v o f same old. old_news x o (clock_of x.client v) same old;
+}
 
 -- the laws of slot boards, within 16 slots
 pub slots_lawful : Lawful slots 16
-slots_lawful =
-    let laws = joins_lawful client_of outranks keepable slots_order slots_decided in
-    record {
-      associative = laws.associative;
-      commutative = laws.commutative;
-      idempotent = laws.idempotent;
-      neutral = laws.neutral;
-      nothing_in_empty = refl;
-      brings = brings;
-      writable = λ d small. record {
-        few = omega (arith, length-map d.0 as_vector);
-        ascending = ascends_seen client_of vector_client as_vector (λ x. refl) d.0 ∙ up client_of outranks keepable d;
-        ids = below_seen keepable as_vector vector_client (2 ^ 53) (λ x f. (parts x f).id) d.0 (pass client_of outranks keepable d);
-        clocks = below_seen keepable as_vector (λ (v : VectorEntry). v.clock) (2 ^ 32) (λ x f. (parts x f).narrow) d.0 (pass client_of outranks keepable d);
-      };
-    }
+slots_lawful = tables_lawful slot_rows slot_fair 16 (omega arith)
+
+-- what is written of slots spells them
+pub slots_are : (es : List Plain) → length es ≤ 64 → list_all keepable es ≡ true → SlotsAre es (counted_out slot_out es)
+slots_are = rows_spelt slot_rows slot_fair exact_slots

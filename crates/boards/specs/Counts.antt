@@ -1,37 +1,35 @@
--- The laws of count boards.
-use Rattle.std.specs.Prelude.{◌≡◌, ℕ, ◌^◌, ◌<◌, ◌≤◌, true, false, ◌&&◌, List, map, length, Some, None, Option, nat_lt, refl}
-use Rattle.std.proofs.Common.{take, ap, subst, ◌∙◌, ⊎_elim, length-take, arith}
-use Rattle.std.proofs.lemmas.List.{length-map}
-use Rattle.std.proofs.lemmas.Bool.{and_left, and_right, ltb-true, ltb-false, lt-ltb, le-ltb, and_parts, and_from, or_left, or_right, cases_lt}
-use Rattle.state_vector.specs.declared.vector.VectorEntry.{VectorEntry}
-use Rattle.state_vector.specs.Tables.{Order, held}
-use Rattle.state_vector.specs.Vector.{clock_in, clock_of}
-use Rattle.state_vector.specs.Vector.{client_of as vector_client}
-use Rattle.state_vector.proofs.Keys.{held_key}
-use Rattle.joined_tables.specs.Joined.{Decided, HeldOff, Covers, all_pass, sound, none, gather}
-use Rattle.joined_tables.proofs.Arriving.{table_is}
-use Rattle.joined_tables.proofs.Gathering.{joins_lawful, up, pass}
-use Rattle.joined_tables.proofs.Mapping.{seen, held_passes, below_seen, ascends_seen, held_seen}
-use Rattle.joined_tables.proofs.Choosing.{choices_bring, few_kept, pass_kept}
-use Rattle.document.specs.Kind.{Brings, Lawful}
+-- How counts are spelt, and what they owe for the laws of tables. It lies here since the law of a host cites it.
+use Rattle.std.specs.Prelude.{◌≡◌, ℕ, ◌-◌, ◌^◌, ◌<◌, ◌≤◌, true, false, ◌&&◌, List, length, ◌++◌, Some, None, Ok, Option, unwrap_or, nat_lt, refl}
+use Rattle.std.proofs.Common.{ap, ◌∙◌, subst, rules, arith, length-append}
+use Rattle.std.proofs.lemmas.Bool.{ltb-true, ltb-false, le-ltb, and_parts}
+use Rattle.std.specs.List.{list_all}
+use Rattle.encoding.specs.Spelling.{Exactly, NumberIs, ClientIs}
+use Rattle.encoding.specs.Writing.{shortest, counted_out}
+use Rattle.encoding.proofs.Backs.{number_is, client_is}
+use Rattle.encoding.proofs.Exacts.{Then, exact_thence, exact_named, exact_as, exact_number, exact_client_id, exact_counted}
+use Rattle.encoding.proofs.Shortest.{length_shortest}
+use Rattle.document.specs.Kind.{Lawful}
+use Rattle.state_vector.specs.Tables.{Order}
+use Rattle.state_vector.specs.Vector.{clock_of}
+use Rattle.joined_tables.specs.Joined.{Decided, HeldOff}
+use Rattle.joined_tables.specs.TableKind.{Fair, clock_held}
+use Rattle.joined_tables.specs.Whole.{wholly}
+use Rattle.joined_tables.proofs.TableLaws.{rows_back, rows_spelt, tables_lawful}
 use Rattle.boards.specs.declared.count.Count.{Count}
-use Rattle.boards.specs.CountBoard.{client_of, outranks, keepable, Board, board, board_of, as_vector, given, is_news, news_for, counts}
-use Rattle.boards.specs.ReadBack.{counts_back}
+use Rattle.boards.specs.CountBoard.{client_of, outranks, keepable, count_in, count_out, count_rows, counts, counts_in, CountIs, CountsAre}
 
--- which count stands above which is an order
-pub counts_order : Order outranks
-counts_order = record {
-  irreflexive = λ x. le-ltb x.count x.count (omega arith);
-  asymmetric = λ x y h. le-ltb x.count y.count (let l = ltb-true y.count x.count h in omega arith);
-  third = λ x y z h. let l = ltb-true y.count x.count h in ⊎_elim (λ (q : z.count < x.count). or_left _ _ (lt-ltb _ _ q)) (λ (q : x.count ≤ z.count). or_right _ _ (lt-ltb y.count z.count (omega arith))) (cases_lt z.count x.count);
-}
+-- a count is read exactly where the bytes spell it
+exact_count_entry : Exactly count_in CountIs
+exact_count_entry = exact_as (exact_thence _ _ exact_client_id (λ id. exact_named (λ n. record { client = id; count = n }) _ (exact_number (2 ^ 32 - 1)))) there back
+  where
+    there : (e : Count) (bs : List ℕ) → Then ClientIs (λ id y b. (n : ℕ) × (record { client = id; count = n } ≡ y) × NumberIs (2 ^ 32 - 1) n b) e bs → CountIs e bs
+    there e bs (id, a, b, i, p, (n, j, q)) = (a, b, i, subst (λ (y : Count). ClientIs y.client a) j p, subst (λ (y : Count). NumberIs (2 ^ 32 - 1) y.count b) j q)
 
-pub counts_decided : Decided client_of outranks
-counts_decided x y k f g =
-    let a = ltb-false y.count x.count f in
-    let b = ltb-false x.count y.count g in
-    let same : x.count ≡ y.count = omega arith in
-    ap (λ c. record { client = c; count = x.count }) k ∙ ap (λ n. record { client = y.client; count = n }) same
+    back : (e : Count) (bs : List ℕ) → CountIs e bs → Then ClientIs (λ id y b. (n : ℕ) × (record { client = id; count = n } ≡ y) × NumberIs (2 ^ 32 - 1) n b) e bs
+    back e bs (a, b, i, p, q) = (e.client, a, b, i, p, (e.count, refl, q))
+
+pub exact_counts : Exactly counts_in CountsAre
+exact_counts = exact_counted 32 count_in CountIs exact_count_entry
 
 -- what a count that may be held has
 pub parts : (e : Count) → keepable e ≡ true → (e.client < 2 ^ 53) × (0 < e.count) × (e.count < 2 ^ 32)
@@ -40,56 +38,51 @@ parts e f =
     let r = and_parts (nat_lt 0 e.count) (nat_lt e.count (2 ^ 32)) q.1 in
     (ltb-true _ _ q.0, ltb-true _ _ r.0, ltb-true _ _ r.1)
 
--- what an update for the vector of e leaves out of d, e has
-covers : (d e : Board) → Covers client_of outranks keepable (is_news (counts.vector e)) d e
-covers d e c x h f =
-    let k : x.client ≡ c = held_key client_of c d.0 x h in
-    let some = parts x (held_passes client_of keepable c d.0 x (pass client_of outranks keepable d) h) in
-    let l : x.count ≤ given (clock_of x.client (map as_vector e.0)) = ltb-false _ _ f in
-    let v : clock_of x.client (map as_vector e.0) ≡ clock_in (seen as_vector (held client_of c e.0)) = ap (λ i. clock_of i (map as_vector e.0)) k ∙ ap clock_in (held_seen client_of vector_client as_vector (λ y. refl) c e.0) in
-    off (held client_of c e.0) (subst (λ o. x.count ≤ given o) v l) some.1
-  where
-    off : (o : Option Count) → x.count ≤ given (clock_in (seen as_vector o)) → 0 < x.count → HeldOff client_of outranks keepable x o
-    off None l p = omega (arith, l)
-    off (Some y) l p = le-ltb y.count x.count l
+-- what is written of it spells it
+count_is : (e : Count) → keepable e ≡ true → CountIs e (count_out e)
+count_is e f = let p = parts e f in (shortest e.client, shortest e.count, refl, client_is e.client p.0, number_is (2 ^ 32 - 1) e.count (omega arith) (omega arith))
 
-brings : (d e : Board) → length d.0 ≤ 64 → Brings counts d e
-brings d e small =
-    let news = news_for d (counts.vector e) in
-    let fine : all_pass keepable news ≡ true = pass_kept client_of (is_news (counts.vector e)) keepable d.0 (pass client_of outranks keepable d) in
-    let few : length news ≤ 64 = omega (arith, few_kept client_of (is_news (counts.vector e)) d.0) in
-    record {
-      brought = gather client_of outranks keepable (none client_of outranks keepable) news;
-      readable = ap board_of (counts_back news few fine);
-      enough = (choices_bring client_of outranks keepable).enough (is_news (counts.vector e)) d e (covers d e);
-    }
+-- and it reads back, whatever bytes follow
+pub count_back : (e : Count) (rest : List ℕ) → keepable e ≡ true → count_in (count_out e ++ rest) ≡ Ok (e, rest)
+count_back e rest f = exact_count_entry.spelt_is_taken e (count_out e) rest (count_is e f)
 
--- the laws of count boards, within 64 counts
+-- in at most 20 bytes
+short : (e : Count) → keepable e ≡ true → length (count_out e) ≤ 64
+short e f = let p = parts e f in omega (arith, length-append (shortest e.client) (shortest e.count), length_shortest e.client (omega arith), length_shortest e.count (omega arith))
+
+-- which count stands above which is an order, and decides unless they are equal
+pub counts_order : Order outranks
+counts_order = record { irreflexive = search rules; asymmetric = search rules; third = search rules }
+
+pub counts_decided : Decided client_of outranks
+counts_decided x y k f g = let same : x.count ≡ y.count = omega (arith, ltb-false y.count x.count f, ltb-false x.count y.count g) in ap (λ c. record { client = c; count = x.count }) k ∙ ap (λ n. record { client = y.client; count = n }) same
+
+-- a count that is no news is held off by the one that the vector tells of
+old_news : (x : Count) (o : Option Count) (n : Option ℕ) → 0 < x.count → n ≡ clock_held count_rows o → nat_lt (unwrap_or n 0) x.count ≡ false → HeldOff client_of outranks keepable x o
+old_news x None n some same old = absurd (omega (arith, ltb-false _ _ old, ap (λ m. unwrap_or m 0) same))
+old_news x (Some y) n some same old = le-ltb y.count x.count (omega (arith, ltb-false _ _ old, ap (λ m. unwrap_or m 0) same))
+
+-- counts owe nothing more for the laws of tables
+pub count_fair : Fair count_rows
+count_fair = record {
+  order = counts_order;
+  decided = counts_decided;
+  same_client = λ x. refl;
+  ids = λ x f. (parts x f).0;
+  clocks = λ x f. (parts x f).2;
+  reads_back = count_back;
+  short = short;
+  old_news = λ x v o f same old. old_news x o (clock_of x.client v) (parts x f).1 same old;
+}
+
+-- what is written of counts spells them
+pub counts_are : (es : List Count) → length es ≤ 64 → list_all keepable es ≡ true → CountsAre es (counted_out count_out es)
+counts_are = rows_spelt count_rows count_fair exact_counts
+
+-- counts that are written read back
+pub counts_back : (es : List Count) → length es ≤ 64 → list_all keepable es ≡ true → wholly (counts_in (counted_out count_out es)) ≡ Ok es
+counts_back = rows_back count_rows count_fair
+
+-- boards of counts keep the laws of documents
 pub counts_lawful : Lawful counts 64
-counts_lawful =
-    let laws = joins_lawful client_of outranks keepable counts_order counts_decided in
-    record {
-      associative = laws.associative;
-      commutative = laws.commutative;
-      idempotent = laws.idempotent;
-      neutral = laws.neutral;
-      nothing_in_empty = refl;
-      brings = brings;
-      writable = λ d small. record {
-        few = omega (arith, length-map d.0 as_vector);
-        ascending = ascends_seen client_of vector_client as_vector (λ x. refl) d.0 ∙ up client_of outranks keepable d;
-        ids = below_seen keepable as_vector vector_client (2 ^ 53) (λ x f. (parts x f).0) d.0 (pass client_of outranks keepable d);
-        clocks = below_seen keepable as_vector (λ (v : VectorEntry). v.clock) (2 ^ 32) (λ x f. (parts x f).2) d.0 (pass client_of outranks keepable d);
-      };
-    }
-
--- a board with at most 64 counts is within the limit
-pub board_within : (len : ℕ) (xs : List Count) → len ≤ 64 → sound client_of keepable (take len xs) ≡ true → length (board (take len xs)).0 ≤ 64
-board_within len xs few s = omega (arith, ap length (table_is client_of outranks keepable (take len xs) s), length-take len xs)
-
--- a count that may be held, and one that may not
-pub kept_if : (e : Count) → e.client < 2 ^ 53 → 0 < e.count → e.count < 2 ^ 32 → keepable e ≡ true
-kept_if e c p n = and_from _ _ (lt-ltb _ _ c) (and_from _ _ (lt-ltb _ _ p) (lt-ltb _ _ n))
-
-pub dropped_if : (e : Count) → e.count ≡ 0 → keepable e ≡ false
-dropped_if e z = and_right _ _ (and_left _ _ (le-ltb 0 e.count (omega arith)))
+counts_lawful = tables_lawful count_rows count_fair 64 (omega arith)

@@ -1,4 +1,3 @@
 pub mod CountBoard
 pub mod SlotBoard
 pub mod Counts
-pub mod ReadBack

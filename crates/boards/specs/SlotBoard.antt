@@ -3,33 +3,29 @@
 --   later        later in byte order
 --   client_of, outranks   the key of a slot, and which stands above which
 --   keepable     a slot that a board may hold
---   Board        the documents: tables of such slots
 --   slot_clock, slot_bytes   whether a number can be a slot's clock, and bytes its bytes
 --   slot_in       a slot, read
---   slots_in      the slots of an update as they stand in the bytes
---   board_of      the board that slots make
 --   slot_out      a slot, as it is written
 --   as_vector     a slot as an entry of a vector
---   given        the clock that a vector gives a client
 --   is_news       a slot that whoever has the vector may lack
---   news_for      the slots of an update for a vector
+--   slot_rows     slots as the entries of a kind of tables
+--   slots_in      the slots of an update as they stand in the bytes
 --   slots        the kind
 --   SlotIs, SlotsAre   which bytes spell which slot, and which update
-use Rattle.std.specs.Prelude.{◌≡◌, ℕ, ◌-◌, ◌^◌, ◌<◌, ◌≤◌, Bool, true, false, cond, ◌&&◌, ◌||◌, List, [], ◌∷◌, ◌++◌, map, length, Some, None, Ok, Err, filter, Option, Result, ◌==◌, nat_le, nat_lt}
+use Rattle.std.specs.Prelude.{◌≡◌, ℕ, ◌-◌, ◌^◌, ◌<◌, ◌≤◌, Bool, cond, ◌&&◌, List, ◌∷◌, ◌++◌, length, Ok, Err, Result, unwrap_or, nat_le, nat_lt}
+use Rattle.std.specs.Cmp.Lexicographic.{slice_cmp}
+use Rattle.std.specs.Ordering.{is_gt, nat_cmp}
 use Rattle.encoding.specs.declared.fault.WireFault.{WireFault}
 use Rattle.encoding.specs.declared.fault.WireFault.TheVariants.{UnexpectedValue, TextTooLong}
-use Rattle.encoding.specs.Entries.{entries}
 use Rattle.encoding.specs.Fields.{buffer, client_id_in}
-use Rattle.encoding.specs.Fields.{count_in as declared_in}
 use Rattle.encoding.specs.Reading.{Reading, thence, named, passed}
 use Rattle.encoding.specs.Spelling.{NumberIs, BufferIs, ClientIs, CountedIs}
 use Rattle.encoding.specs.VarUint.{var_uint}
-use Rattle.encoding.specs.Writing.{shortest, packed, counted_out}
+use Rattle.encoding.specs.Writing.{shortest, packed}
 use Rattle.state_vector.specs.declared.vector.VectorEntry.{VectorEntry}
 use Rattle.state_vector.specs.Vector.{clock_of}
-use Rattle.joined_tables.specs.Joined.{Sound, none, gather, joined}
 use Rattle.document.specs.Kind.{Kind}
-use Rattle.joined_tables.specs.Whole.{wholly}
+use Rattle.joined_tables.specs.TableKind.{Rows, rows_in, table_kind}
 
 -- a slot by its client, its clock and its bytes
 pub record Plain : Type 0 where
@@ -39,9 +35,7 @@ pub record Plain : Type 0 where
 
 -- later in byte order: a prefix is earlier
 abbrev pub later : List ℕ → List ℕ → Bool
-later [] ys = false
-later (x ∷ xs) [] = true
-later (x ∷ xs) (y ∷ ys) = nat_lt y x || (x == y && later xs ys)
+later xs ys = is_gt (slice_cmp nat_cmp xs ys)
 
 -- the client of a slot, its key
 abbrev pub client_of : Plain → ℕ
@@ -49,15 +43,11 @@ client_of e = e.client
 
 -- the higher clock stands above, and at the same clock the later bytes
 abbrev pub outranks : Plain → Plain → Bool
-outranks x y = nat_lt y.clock x.clock || (x.clock == y.clock && later x.bytes y.bytes)
+outranks x y = later (x.clock ∷ x.bytes) (y.clock ∷ y.bytes)
 
 -- a slot that a board may hold: of a client that can be written, at a clock of 32 bits from 1 on, with at most 32 bytes
 abbrev pub keepable : Plain → Bool
 keepable e = nat_lt e.client (2 ^ 53) && (nat_lt 0 e.clock && (nat_lt e.clock (2 ^ 32) && nat_le (length e.bytes) 32))
-
--- the documents: tables of slots that may be held
-abbrev pub Board : Type 0
-Board = Sound client_of keepable
 
 -- whether a number can be a slot's clock: it is not 0
 abbrev pub slot_clock : ℕ → Result (Unit {0}) WireFault
@@ -79,15 +69,6 @@ slot_bytes_in s = thence (buffer s) (λ bs rest. passed (slot_bytes bs) bs rest)
 abbrev pub slot_in : List ℕ → Reading Plain
 slot_in s = thence (client_id_in s) (λ id rest. thence (slot_clock_in rest) (λ n after. named (λ bs. record { client = id; clock = n; bytes = bs }) (slot_bytes_in after)))
 
--- the slots of an update as they stand in the bytes: how many, of 32 bits and at most 64, then so many slots
-abbrev pub slots_in : List ℕ → Reading (List Plain)
-slots_in s = thence (declared_in 32 s) (entries slot_in)
-
--- the board that slots make: of a client's several slots the one that stands highest
-abbrev pub board_of : Result (List Plain) WireFault → Result Board WireFault
-board_of (Ok es) = Ok (gather client_of outranks keepable (none client_of outranks keepable) es)
-board_of (Err f) = Err f
-
 -- a slot, as it is written: its client, its clock, then its bytes in a buffer
 abbrev pub slot_out : Plain → List ℕ
 slot_out e = shortest e.client ++ (shortest e.clock ++ packed e.bytes)
@@ -96,30 +77,21 @@ slot_out e = shortest e.client ++ (shortest e.clock ++ packed e.bytes)
 abbrev pub as_vector : Plain → VectorEntry
 as_vector e = record { client = e.client; clock = e.clock }
 
--- what a vector gives: a client that it lacks is at 0
-abbrev pub given : Option ℕ → ℕ
-given None = 0
-given (Some n) = n
-
--- whoever has the vector may lack this slot: at the same clock its bytes may be later
+-- whoever has the vector may lack this slot: it is not below the clock that the vector gives, where a client that it lacks is at 0, and at the same clock its bytes may be later
 abbrev pub is_news : List VectorEntry → Plain → Bool
-is_news v e = nat_le (given (clock_of e.client v)) e.clock
+is_news v e = nat_le (unwrap_or (clock_of e.client v) 0) e.clock
 
--- the slots of a board at the clocks that the vector gives, or above
-abbrev pub news_for : Board → List VectorEntry → List Plain
-news_for d v = filter (is_news v) d.0
+-- slots as the entries of a kind of tables
+abbrev pub slot_rows : Rows Plain
+slot_rows = record { client = client_of; above = outranks; fine = keepable; reading = slot_in; writing = slot_out; told = as_vector; news = is_news }
+
+-- the slots of an update as they stand in the bytes
+abbrev pub slots_in : List ℕ → Reading (List Plain)
+slots_in s = rows_in slot_rows s
 
 -- the kind of a slot board's documents
 abbrev pub slots : Kind
-slots = record {
-  Document = Board;
-  empty = none client_of outranks keepable;
-  join = joined client_of outranks keepable;
-  size = λ d. length d.0;
-  vector = λ d. map as_vector d.0;
-  reading = λ bytes. board_of (wholly (slots_in bytes));
-  update = λ d v. counted_out slot_out (news_for d v);
-}
+slots = table_kind slot_rows
 
 -- a client id, a clock from 1 on, then a buffer of at most 32 bytes, spell a slot
 abbrev pub SlotIs : Plain → List ℕ → Type 0

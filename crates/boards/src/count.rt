@@ -5,15 +5,15 @@ ghost use Rattle.boards.specs.declared.count.Count.{Count};
 ghost use Rattle.boards.specs.CountBoard.{count_in};
 ghost use Rattle.std.proofs.Common.{rules};
 
-use encoding::entries::Layout;
+use encoding::entries::Decode;
 use encoding::fault::WireFault;
 use encoding::read::read_client_id;
-use encoding::var_uint::read_var_u32;
+use encoding::var_uint::read_var;
 use state_vector::keyed::Keyed;
 use state_vector::standing::Standing;
 
 // A client, and its count.
-#[derive(Clone, Copy, Debug, PartialEq, Eq)]
+#[derive(Clone, Copy, Debug, Default, PartialEq, Eq)]
 pub struct Count {
     pub client: u64,
     pub count: u32,
@@ -42,27 +42,19 @@ impl Standing for Count {
     }
 }
 
-// A count, and the bytes after it.
-pub fn read_count(s: &[u8]) -> Result<(Count, &[u8]), WireFault>
-    ensures reads { read result ≡ count_in s.now }
-    ensures known { IfOk result (λ p. p.0.client < 2 ^ 53) }
-    ensures narrow { IfOk result (λ p. p.0.count < 2 ^ 32) }
-{
-    let (client, rest) = read_client_id(s)?;
-    let (count, rest) = read_var_u32(rest)?;
-    Ok((Count { client, count }, rest))
-}
-
-// The layout of an update's counts, for the walk over them.
-pub struct CountLayout;
-
-impl Layout for CountLayout {
+impl<'a> Decode<'a> for Count {
     ghost item = { Count };
+
+    ghost says = { λ e. e };
+
+    ghost holds = { λ e. (e.client < 2 ^ 53) × (e.count < 2 ^ 32) };
 
     ghost entry = { count_in };
 
-    fn skip(s: &[u8]) -> Result<&[u8], WireFault> {
-        let (_, rest) = read_count(s)?;
-        Ok(rest)
+    // A client id, then a count.
+    fn read(s: &'a [u8]) -> Result<(Count, &'a [u8]), WireFault> {
+        let (client, rest) = read_client_id(s)?;
+        let (count, rest) = read_var::<u32>(rest)?;
+        Ok((Count { client, count }, rest))
     }
 }

@@ -1,12 +1,10 @@
 // Counts, written; and which of them whoever has a vector lacks.
-ghost use Rattle.document.specs.Kind.{known};
 ghost use Rattle.boards.specs.CountBoard.{as_vector, count_out, is_news};
 
 use crate::count::Count;
-use encoding::chosen_out::Choice;
-use encoding::entries_out::Entry;
+use encoding::entries_out::{Choice, Entry};
 use encoding::sink::{BufferTooShort, Sink};
-use encoding::write::{write_var_u32, write_var_u64};
+use encoding::write::write_var;
 use joined_tables::vector_of::InVector;
 use state_vector::vector::{StateVector, VectorEntry};
 
@@ -15,8 +13,8 @@ impl Entry for Count {
 
     // Its client, then itself.
     fn write<S: Sink>(&self, sink: &mut S) -> Result<(), BufferTooShort> {
-        write_var_u64(sink, self.client)?;
-        write_var_u32(sink, self.count)
+        write_var(sink, self.client)?;
+        write_var(sink, self.count)
     }
 }
 
@@ -27,13 +25,10 @@ pub struct NewCounts<'a> {
 }
 
 impl Choice<Count> for NewCounts<'_> {
-    ghost takes = { λ c e. is_news (known c.since.now) e };
+    ghost takes = { λ c e. is_news c.since.now e };
 
     fn takes_entry(&self, e: &Count) -> bool {
-        match self.since.get(e.client) {
-            Some(clock) => clock < e.count,
-            None => e.count > 0,
-        }
+        self.since.get(e.client).unwrap_or(0) < e.count
     }
 }
 

@@ -4,10 +4,10 @@ ghost use Rattle.encoding.specs.Entries.{entries};
 ghost use Rattle.boards.specs.CountBoard.{count_in, counts_in};
 ghost use Rattle.joined_tables.specs.Whole.{wholly, told};
 
-use crate::count::CountLayout;
+use crate::count::Count;
 use encoding::entries::skip_entries;
 use encoding::fault::WireFault;
-use encoding::read::read_count_u32;
+use encoding::read::read_count;
 
 // So many counts in the bytes.
 #[derive(Clone, Copy, Drop)]
@@ -22,8 +22,8 @@ impl<'a> CountUpdate<'a> {
         ensures reads { told (λ u. wholly (entries count_in u.count u.counts.now)) result ≡ wholly (counts_in bytes.now) }
         ensures whole { IfOk result (λ u. is_ok (wholly (entries count_in u.count u.counts.now)) ≡ true) }
     {
-        let (count, counts) = read_count_u32(bytes)?;
-        match skip_entries::<CountLayout>(counts, count)? {
+        let (count, counts) = read_count::<u32>(bytes)?;
+        match skip_entries::<Count>(counts, count)? {
             [] => Ok(CountUpdate { count, counts }),
             _ => Err(WireFault::UnexpectedValue),
         }

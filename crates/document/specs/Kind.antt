@@ -1,12 +1,10 @@
 -- What a kind of document is, and the laws that it keeps within a limit.
 --   Kind        documents, how two join, how large one is, its vector, how bytes are read, and the update for a vector
---   known       the entries of a state vector
 --   Writable    a vector that fits a state vector
 --   Brings      an update that brings another document up to the join of both
 --   Lawful      the laws of a kind, for documents within a limit
-use Rattle.std.specs.Prelude.{◌≡◌, ℕ, ◌^◌, ◌≤◌, true, List, length, take, Ok, Result}
+use Rattle.std.specs.Prelude.{◌≡◌, ℕ, ◌^◌, ◌≤◌, true, List, length, Ok, Result}
 use Rattle.encoding.specs.declared.fault.WireFault.{WireFault}
-use Rattle.state_vector.specs.declared.vector.StateVector.{StateVector}
 use Rattle.state_vector.specs.declared.vector.VectorEntry.{VectorEntry}
 use Rattle.state_vector.specs.Tables.{all_below, ascends}
 use Rattle.state_vector.specs.Vector.{client_of}
@@ -23,10 +21,6 @@ pub record Kind : Type 1 where
   pub reading : List ℕ → Result Document WireFault
   -- the bytes that tell whoever has the vector what it lacks
   pub update : Document → List VectorEntry → List ℕ
-
--- the entries of a state vector
-abbrev pub known : StateVector → List VectorEntry
-known v = take v.len v.entries
 
 -- a vector that fits a state vector: at most 64 entries that ascend by client, with ids below 2^53 and clocks of 32 bits
 pub record Writable (v : List VectorEntry) : Type 0 where

@@ -1,17 +1,20 @@
 // Why a document's host refuses an update.
 ghost use Rattle.std.specs.Prelude.{◌≡◌};
-ghost use Rattle.document.specs.declared.fault.DocumentFault.TheVariants.{Unreadable};
+ghost use Rattle.document.specs.declared.fault.DocumentFault.TheVariants.{Unreadable, TooLarge};
 ghost use Rattle.document.specs.Taking.{document_number};
 
 use encoding::fault::WireFault;
-use std::fmt;
+use state_vector::keyed::TableFull;
+use thiserror::Error;
 
 // What a host was asked to take and did not.
-#[derive(Clone, Copy, Debug, PartialEq, Eq)]
+#[derive(Clone, Copy, Debug, PartialEq, Eq, Error)]
 pub enum DocumentFault {
     // the bytes are no update, for the fault that reading met
+    #[error("the update is unreadable: {0}")]
     Unreadable(WireFault),
     // the join would be larger than the host's limit
+    #[error("the joined document is past its limit")]
     TooLarge,
 }
 
@@ -27,6 +30,7 @@ impl DocumentFault {
     }
 }
 
+// Both by hand, since the derive's `From` would not say which fault it makes.
 impl From<WireFault> for DocumentFault {
     ghost from_gives = { λ f r. r ≡ Unreadable f };
 
@@ -36,12 +40,11 @@ impl From<WireFault> for DocumentFault {
     }
 }
 
-impl fmt::Display for DocumentFault {
-    // The fault in words.
-    fn fmt<W: fmt::Write>(&self, f: &mut fmt::Formatter<W>) -> fmt::Result {
-        match *self {
-            DocumentFault::Unreadable(fault) => write!(f, "the update is unreadable: {fault}"),
-            DocumentFault::TooLarge => write!(f, "the joined document is past its limit"),
-        }
+impl From<TableFull> for DocumentFault {
+    ghost from_gives = { λ _ r. r ≡ TooLarge };
+
+    // A document that is a table is too large where the table is full.
+    fn from(_full: TableFull) -> Self {
+        Self::TooLarge
     }
 }

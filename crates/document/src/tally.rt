@@ -1,6 +1,6 @@
 // A layer over any host that counts the updates it accepted and refused.
-ghost use Rattle.std.specs.Prelude.{◌≡◌};
-ghost use Rattle.document.specs.Counts.{accepted_then, refused_then};
+ghost use Rattle.std.specs.Prelude.{◌≡◌, is_ok, is_err};
+ghost use Rattle.document.specs.Counts.{raised_if};
 ghost use Rattle.document.specs.Taking.{accepts, taken};
 ghost use Rattle.std.proofs.Common.{rules};
 
@@ -43,19 +43,19 @@ impl<H> Tally<H> {
 impl<H: DocumentHost> DocumentHost for Tally<H> {
     const LIMIT: u32 = H::LIMIT;
 
-    ghost limit = { H.DocumentHost.limit };
+    ghost LIMIT = { H.LIMIT };
 
-    ghost kind = { H.DocumentHost.kind };
+    ghost kind = { H.kind };
 
-    ghost document = { λ t. H.DocumentHost.document t.host };
+    ghost document = { λ t. H.document t.host };
 
     ghost lawful = { Prim.search rules };
 
     ghost within = { Prim.search rules };
 
     // The host below is fresh, and nothing is counted yet.
-    fn new() -> Tally<H>
-        ensures document { H.DocumentHost.document result.host ≡ H.DocumentHost.kind.empty }
+    fn new() -> Self
+        ensures document { H.document result.host ≡ H.kind.empty }
         ensures accepted { result.accepted ≡ 0 }
         ensures refused { result.refused ≡ 0 }
     {
@@ -64,10 +64,6 @@ impl<H: DocumentHost> DocumentHost for Tally<H> {
             accepted: 0,
             refused: 0,
         }
-    }
-
-    fn most() -> u32 {
-        H::most()
     }
 
     fn vector(&self) -> StateVector {
@@ -84,10 +80,10 @@ impl<H: DocumentHost> DocumentHost for Tally<H> {
 
     // The host below decides, and its answer is counted.
     fn take(&mut self, bytes: &[u8]) -> Result<(), DocumentFault>
-        ensures answer { result ≡ accepts H.DocumentHost.kind H.DocumentHost.limit (H.DocumentHost.document self.old.host) bytes.now }
-        ensures document { H.DocumentHost.document self.new.host ≡ taken H.DocumentHost.kind H.DocumentHost.limit (H.DocumentHost.document self.old.host) bytes.now }
-        ensures accepted { self.new.accepted ≡ accepted_then result self.old.accepted }
-        ensures refused { self.new.refused ≡ refused_then result self.old.refused }
+        ensures answer { result ≡ accepts H.kind H.LIMIT (H.document self.old.host) bytes.now }
+        ensures document { H.document self.new.host ≡ taken H.kind H.LIMIT (H.document self.old.host) bytes.now }
+        ensures accepted { self.new.accepted ≡ raised_if (is_ok result) self.old.accepted }
+        ensures refused { self.new.refused ≡ raised_if (is_err result) self.old.refused }
     {
         let answer = self.host.take(bytes);
         match answer {

@@ -1,5 +1,6 @@
 -- What is written beside what is read.
 use Rattle.std.proofs.Common.{◌≡◌, ℕ, ◌+◌, ◌-◌, ◌^◌, ◌<◌, ◌≤◌, ltb, leb, List, length, Ok, refl, ap, arith, length-append, ltb-true, leb-true}
+use Rattle.std.proofs.Math.Pow.{pow_mono}
 use Rattle.encoding.specs.declared.fault.WireFault.TheVariants.{InvalidClientId, TooManyEntries}
 use Rattle.encoding.specs.Fields.{buffer, plain_text, count, presence_text}
 use Rattle.encoding.specs.ReadBack.{FieldsReadBack, NeverLonger}
@@ -41,8 +42,7 @@ fields_read_back = record {
   buffers = λ bs rest h. exact_buffer.spelt_is_taken bs (packed bs) rest (buffer_is bs h);
   texts = λ bs rest h e. (exact_passed plain_text buffer exact_buffer).spelt_is_taken bs (packed bs) rest (buffer_is bs h, e);
   client_ids = λ n rest e. exact_client_id.spelt_is_taken n (shortest n) rest (client_is n (ltb-true n (2 ^ 53) (test_passes InvalidClientId (ltb n (2 ^ 53)) e)));
-  counts_of_32 = λ n rest e. let l = few n e in (exact_count 32).spelt_is_taken n (shortest n) rest (count_is 32 n (omega arith) l);
-  counts_of_64 = λ n rest e. let l = few n e in (exact_count 64).spelt_is_taken n (shortest n) rest (count_is 64 n (omega arith) l);
+  counts = λ width n rest w e. let l = few n e in (exact_count width).spelt_is_taken n (shortest n) rest (count_is width n (omega (arith, pow_mono {i = 7} {j = width} w)) l);
   presence_texts = λ bs rest e. let l = brief bs e in (exact_passed presence_text buffer exact_buffer).spelt_is_taken bs (packed bs) rest (buffer_is bs (omega arith), e);
 }
 

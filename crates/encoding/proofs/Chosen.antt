@@ -1,19 +1,8 @@
 -- Entries that are chosen one after another.
-use Rattle.std.proofs.Common.{◌≡◌, ℕ, ◌+◌, ◌<◌, ◌≤◌, Bool, true, false, cond, List, [], ◌∷◌, ◌++◌, length, get_or, take, drop, filter, sym, refl, ap, ◌∙◌, append-nil, arith, length-append, take-append-drop, length-take}
+use Rattle.std.proofs.Common.{◌≡◌, ℕ, ◌+◌, ◌<◌, Bool, true, false, cond, List, [], ◌∷◌, ◌++◌, length, get_or, take, drop, filter, sym, refl, ap, ◌∙◌, append-nil, take-append-drop}
 use Rattle.std.proofs.lemmas.List.Elements.{filter-append, filter_more}
 use Rattle.encoding.specs.Writing.{row_out}
 use Rattle.encoding.proofs.Sendings.{row_append}
-
-pub kept_few : {X : Type 0} (p : X → Bool) (xs : List X) → length (filter p xs) ≤ length xs
-kept_few p [] = omega arith
-kept_few p (x ∷ xs) = one (p x) (kept_few p xs)
-  where
-    one : (b : Bool) → length (filter p xs) ≤ length xs → length (cond b (x ∷ filter p xs) (filter p xs)) ≤ length (x ∷ xs)
-    one true h = omega arith
-    one false h = omega arith
-
-pub kept_front : {X : Type 0} (p : X → Bool) (xs : List X) (i : ℕ) → length (filter p (take i xs)) ≤ i
-kept_front p xs i = omega (arith, kept_few p (take i xs), length-take i xs)
 
 -- one entry more, which is taken or not
 module _ {X : Type 0} (p : X → Bool) (xs : List X) (i : ℕ) (x : X) (l : i < length xs) (is : x ≡ get_or xs i x) where
@@ -25,9 +14,6 @@ module _ {X : Type 0} (p : X → Bool) (xs : List X) (i : ℕ) (x : X) (l : i < 
 
   pub kept_no : p x ≡ false → filter p (take (i + 1) xs) ≡ filter p (take i xs)
   kept_no f = more ∙ ap (λ b. filter p (take i xs) ++ cond b (x ∷ []) []) f ∙ append-nil (filter p (take i xs))
-
-  pub count_yes : p x ≡ true → length (filter p (take (i + 1) xs)) ≡ length (filter p (take i xs)) + 1
-  count_yes t = ap length (kept_yes t) ∙ length-append (filter p (take i xs)) (x ∷ [])
 
   pub row_yes : (out : X → List ℕ) → p x ≡ true → row_out out (filter p (take (i + 1) xs)) ≡ row_out out (filter p (take i xs)) ++ out x
   row_yes out t = ap (row_out out) (kept_yes t) ∙ row_append out (filter p (take i xs)) (x ∷ []) ∙ ap (λ r. row_out out (filter p (take i xs)) ++ r) (append-nil (out x))

@@ -1,17 +1,13 @@
 -- Entries that are written and read back, and entries that were read and are written again.
 use Rattle.std.proofs.Common.{◌≡◌, ℕ, zero, suc, ◌+◌, ◌-◌, ◌^◌, ◌≤◌, List, [], ◌∷◌, ◌++◌, map, length, Ok, sym, refl, ap, ◌∙◌, subst, append_assoc, arith, length-append}
+use Rattle.std.specs.List.{AllByRecursion}
 use Rattle.encoding.specs.Entries.{entries}
 use Rattle.encoding.specs.Fields.{count, count_in}
 use Rattle.encoding.specs.Reading.{Reading, thence, named}
 use Rattle.encoding.specs.VarUint.{var_uint}
 use Rattle.encoding.specs.Writing.{shortest, row_out, counted_out}
-use Rattle.encoding.proofs.Backs.{never_longer}
+use Rattle.encoding.proofs.Backs.{fields_read_back, never_longer}
 use Rattle.encoding.proofs.Exacts.{ok_is, came, named_came, tested}
-
--- something holds of each entry
-abbrev pub Each : {X : Type 0} → (X → Type 0) → List X → Type 0
-Each P [] = Unit {0}
-Each P (x ∷ xs) = P x × Each P xs
 
 module _ {X Y : Type 0} (one : List ℕ → Reading Y) (out : X → List ℕ) (as_read : X → Y) where
   -- an entry reads back, whatever follows it
@@ -19,18 +15,18 @@ module _ {X Y : Type 0} (one : List ℕ → Reading Y) (out : X → List ℕ) (a
   Back x = (rest : List ℕ) → one (out x ++ rest) ≡ Ok (as_read x, rest)
 
   -- and so do entries one after another
-  pub row_back : (xs : List X) (rest : List ℕ) → Each Back xs → entries one (length xs) (row_out out xs ++ rest) ≡ Ok (map as_read xs, rest)
+  pub row_back : (xs : List X) (rest : List ℕ) → AllByRecursion Back xs → entries one (length xs) (row_out out xs ++ rest) ≡ Ok (map as_read xs, rest)
   row_back [] rest h = refl
   row_back (x ∷ xs) rest h =
       ap (λ s. thence (one s) (λ y after. named (λ ys. y ∷ ys) (entries one (length xs) after))) (append_assoc (out x) (row_out out xs) rest)
       ∙ ap (λ r. thence r (λ y after. named (λ ys. y ∷ ys) (entries one (length xs) after))) (h.0 (row_out out xs ++ rest))
       ∙ ap (named (λ ys. as_read x ∷ ys)) (row_back xs rest h.1)
 
-  -- with their count in front, of 32 or 64 bits
-  pub counted_back : (width : ℕ) (xs : List X) (rest : List ℕ) → ((n : ℕ) (s : List ℕ) → count n ≡ Ok tt → count_in width (shortest n ++ s) ≡ Ok (n, s)) → count (length xs) ≡ Ok tt → Each Back xs → thence (count_in width (counted_out out xs ++ rest)) (entries one) ≡ Ok (map as_read xs, rest)
-  counted_back width xs rest back few h =
+  -- with their count in front, at every width of seven bits or more
+  pub counted_back : (width : ℕ) (xs : List X) (rest : List ℕ) → 7 ≤ width → count (length xs) ≡ Ok tt → AllByRecursion Back xs → thence (count_in width (counted_out out xs ++ rest)) (entries one) ≡ Ok (map as_read xs, rest)
+  counted_back width xs rest wide few h =
       ap (λ s. thence (count_in width s) (entries one)) (append_assoc (shortest (length xs)) (row_out out xs) rest)
-      ∙ ap (λ r. thence r (entries one)) (back (length xs) (row_out out xs ++ rest) few)
+      ∙ ap (λ r. thence r (entries one)) (fields_read_back.counts width (length xs) (row_out out xs ++ rest) wide few)
       ∙ row_back xs rest h
 
 module _ {X : Type 0} (one : List ℕ → Reading X) (out : X → List ℕ) where

@@ -1,6 +1,5 @@
 -- Rows that are sent into a sink one after another.
-use Rattle.std.proofs.Common.{◌≡◌, ℕ, ◌+◌, ◌^◌, ◌<◌, ◌≤◌, List, [], ◌∷◌, ◌++◌, length, get_or, take, drop, Ok, Err, Result, sym, refl, ap, ◌∙◌, subst, append_assoc, append-nil, arith, length-append, take-append-drop}
-use Rattle.std.proofs.lemmas.List.{take_more}
+use Rattle.std.proofs.Common.{◌≡◌, ℕ, ◌+◌, ◌^◌, ◌<◌, ◌≤◌, List, [], ◌∷◌, ◌++◌, length, Ok, Err, Result, sym, refl, ap, ◌∙◌, subst, append_assoc, arith, length-append}
 use Rattle.encoding.specs.declared.sink.BufferTooShort.{BufferTooShort}
 use Rattle.encoding.specs.Sink.{Put}
 use Rattle.encoding.specs.Writing.{shortest, buffer_out, row_out, Writes, told, Sent}
@@ -11,14 +10,6 @@ use Rattle.encoding.proofs.Runs.{runs_append, put_then, put_short}
 pub row_append : {X : Type 0} (out : X → List ℕ) (xs ys : List X) → row_out out (xs ++ ys) ≡ row_out out xs ++ row_out out ys
 row_append out [] ys = refl
 row_append out (x ∷ xs) ys = ap (λ l. out x ++ l) (row_append out xs ys) ∙ sym (append_assoc (out x) (row_out out xs) (row_out out ys))
-
--- one entry more
-pub row_more : {X : Type 0} (out : X → List ℕ) (xs : List X) (i : ℕ) (d : X) → i < length xs → row_out out (take (i + 1) xs) ≡ row_out out (take i xs) ++ out (get_or xs i d)
-row_more out xs i d l = ap (row_out out) (take_more xs i d l) ∙ row_append out (take i xs) (get_or xs i d ∷ []) ∙ ap (λ r. row_out out (take i xs) ++ r) (append-nil (out (get_or xs i d)))
-
--- entries cut in two
-pub row_cut : {X : Type 0} (out : X → List ℕ) (xs : List X) (n : ℕ) → row_out out xs ≡ row_out out (take n xs) ++ row_out out (drop n xs)
-row_cut out xs n = ap (row_out out) (sym (take-append-drop n xs)) ∙ row_append out (take n xs) (drop n xs)
 
 module _ {S : Type 0} (room : S → ℕ) (step : S → ℕ → S → Type 0) where
   -- what goes in whole or is refused is sent

@@ -1,7 +1,6 @@
 -- The shortest spelling of a number.
-use Rattle.std.proofs.Common.{◌≡◌, ℕ, zero, suc, ◌+◌, ◌*◌, ◌/◌, ◌%◌, ◌^◌, ◌<◌, ◌≤◌, List, [], ◌∷◌, ◌++◌, length, take, set, sym, refl, ap, ◌∙◌, subst, ⊎_elim, append_assoc, arith, length-append, le-ltb, lt-ltb}
-use Rattle.std.proofs.lemmas.List.{take_more_set}
-use Rattle.std.proofs.str.Laws.{order}
+use Rattle.std.proofs.Common.{◌≡◌, ℕ, zero, suc, ◌+◌, ◌*◌, ◌/◌, ◌%◌, ◌^◌, ◌<◌, ◌≤◌, List, [], ◌∷◌, ◌++◌, length, sym, refl, ap, ◌∙◌, subst, ⊎_elim, arith, length-append, le-ltb, lt-ltb}
+use Rattle.std.proofs.lemmas.Bool.{cases_lt}
 use Rattle.encoding.specs.ReadBack.{ShortestIsShortest}
 use Rattle.encoding.specs.VarUint.{number, Spells}
 use Rattle.encoding.specs.Writing.{spelt, shortest}
@@ -25,7 +24,7 @@ same (suc k) zero n p q = one (suc k) n (omega arith) ∙ sym (one zero n (omega
 same (suc k) (suc j) n p q =
     ⊎_elim (λ h. one (suc k) n h ∙ sym (one (suc j) n h))
     (λ h. more k n h ∙ ap (λ l. (128 + n % 128) ∷ l) (same k j (n / 128) (omega arith) (omega arith)) ∙ sym (more j n h))
-    (order n 128)
+    (cases_lt n 128)
 
 -- a number of seven bits is its own spelling
 pub shortest_one : (n : ℕ) → n < 128 → shortest n ≡ n ∷ []
@@ -49,7 +48,7 @@ long zero n b = let e = ap length (shortest_one n (omega arith)) in omega arith
 long (suc k) n b =
     ⊎_elim (λ l. let e = ap length (shortest_one n l) in omega arith)
     (λ g. let e = ap length (shortest_more n g) in let r = long k (n / 128) (omega arith) in omega arith)
-    (order n 128)
+    (cases_lt n 128)
 
 -- a number of 64 bits takes ten bytes at most
 pub length_shortest : (n : ℕ) → n < 2 ^ 64 → length (shortest n) ≤ 10
@@ -58,19 +57,11 @@ length_shortest n h = long 9 n (omega arith)
 -- and every number takes one
 pub some_shortest : (n : ℕ) → 0 < length (shortest n)
 some_shortest n =
-    ⊎_elim (λ l. let e = ap length (shortest_one n l) in omega arith) (λ g. let e = ap length (shortest_more n g) in omega arith) (order n 128)
+    ⊎_elim (λ l. let e = ap length (shortest_one n l) in omega arith) (λ g. let e = ap length (shortest_more n g) in omega arith) (cases_lt n 128)
 
--- what is left of a number of 64 bits has a byte left
-pub byte_left : (len high n : ℕ) → n < 2 ^ 64 → len + length (shortest high) ≡ length (shortest n) → len < 10
-byte_left len high n h e = omega (arith, length_shortest n h, some_shortest high)
-
--- a spelling at the front of an array, one byte further
-pub spelt_more : (bytes : List ℕ) (len high n : ℕ) → len < length bytes → 128 ≤ high → take len bytes ++ shortest high ≡ shortest n → take (len + 1) (set bytes len (128 + high % 128)) ++ shortest (high / 128) ≡ shortest n
-spelt_more bytes len high n l h e = rw (take_more_set bytes len (128 + high % 128) l, append_assoc) (ap (λ bs. take len bytes ++ bs) (sym (shortest_more high h)) ∙ e)
-
--- and with its last byte
-pub spelt_last : (bytes : List ℕ) (len high n : ℕ) → len < length bytes → high < 128 → take len bytes ++ shortest high ≡ shortest n → take (len + 1) (set bytes len high) ≡ shortest n
-spelt_last bytes len high n l h e = take_more_set bytes len high l ∙ ap (λ bs. take len bytes ++ bs) (sym (shortest_one high h)) ∙ e
+-- bytes before the spelling of what is left of a number of 64 bits are fewer than ten
+pub front_short : (front : List ℕ) (high n : ℕ) → n < 2 ^ 64 → front ++ shortest high ≡ shortest n → length front < 10
+front_short front high n h e = omega (arith, ap length e, length-append front (shortest high), length_shortest n h, some_shortest high)
 
 -- one byte spells itself
 spells_one : (n : ℕ) → n < 128 → Spells (n ∷ []) n
@@ -96,7 +87,7 @@ spells (suc k) n h =
     let b : 128 ≤ 128 + n % 128 = omega arith in
     let v : (128 + n % 128) % 128 + 128 * (n / 128) ≡ n = omega arith in
     subst (λ m. Spells (shortest n) m) v (subst (λ bs. Spells bs ((128 + n % 128) % 128 + 128 * (n / 128))) (sym (shortest_more n g)) (spells_more (128 + n % 128) (n / 128) (shortest (n / 128)) b (spells k (n / 128) (omega arith)))))
-    (order n 128)
+    (cases_lt n 128)
 
 -- no bytes that go on, with a last one, add up to a number whose shortest spelling is longer
 least : (front : List ℕ) (last : ℕ) → last < 128 → length (shortest (number (front ++ last ∷ []))) ≤ suc (length front)
@@ -114,7 +105,7 @@ least (b ∷ front) last h =
     let i = least front last h in
     let w = ap (λ k. length (shortest k)) v in
     omega arith)
-    (order n 128)
+    (cases_lt n 128)
 
 -- the law of the shortest spelling
 pub shortest_is_shortest : ShortestIsShortest

@@ -1,7 +1,7 @@
 -- Numbers as they are spelt, beside numbers as they are read.
 use Rattle.std.proofs.Common.{◌≡◌, ℕ, suc, ◌+◌, ◌*◌, ◌%◌, ◌^◌, ◌<◌, ◌≤◌, Bool, true, false, cond, leb, List, [], ◌∷◌, ◌++◌, length, take, drop, Ok, Err, sym, refl, ap, ◌∙◌, subst, ⊎_elim, append_assoc, mul_assoc, mul_comm, pow-suc, mul-add, arith, length-append, le-ltb, lt-ltb, le-leb, leb-false, leb-true}
 use borrow.Author.Tests.{lt-leb}
-use Rattle.std.proofs.str.Laws.{order}
+use Rattle.std.proofs.lemmas.Bool.{cases_lt}
 use Rattle.encoding.specs.declared.fault.WireFault.TheVariants.{InvalidVarInt, EndOfBuffer}
 use Rattle.encoding.specs.Reading.{Reading}
 use Rattle.encoding.specs.VarUint.{going, number, number_in, var_uint, GoesOn, worth, Spells, VarUintsAreAsSpelt}
@@ -59,7 +59,7 @@ ended (b ∷ s) h =
     ⊎_elim (λ l. record { front = []; last = b; rest = s; is = refl; goes = tt; ends = l })
     (λ g. let k : going s < length s = let e = rw (le-ltb b 128 g) at h in omega arith in
     let r = ended s k in record { front = b ∷ r.front; last = r.last; rest = r.rest; is = ap (λ l. b ∷ l) r.is; goes = (g, r.goes); ends = r.ends })
-    (order b 128)
+    (cases_lt b 128)
 
 joined : (front rest : List ℕ) (last : ℕ) → (front ++ last ∷ []) ++ rest ≡ front ++ last ∷ rest
 joined front rest last = append_assoc front (last ∷ []) rest

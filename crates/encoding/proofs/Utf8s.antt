@@ -1,12 +1,24 @@
 -- What the table of byte sequences takes is UTF-8. Assumes nothing.
-use Rattle.std.proofs.Common.{◌≡◌, ℕ, zero, suc, ◌+◌, ◌-◌, ◌*◌, ◌/◌, ◌<◌, ◌≤◌, true, false, leb, ◌⊎◌, List, [], ◌∷◌, ◌++◌, length, IsAscii, Decides, sym, refl, ap, ◌∙◌, subst, inl, inr, ⊎_elim, arith, length-append, le-ltb, lt-ltb, le-leb, leb-true}
+use Rattle.std.proofs.Common.{◌≡◌, ℕ, zero, suc, ◌+◌, ◌-◌, ◌*◌, ◌/◌, ◌<◌, ◌≤◌, true, false, leb, ◌⊎◌, List, [], ◌∷◌, ◌++◌, length, Decides, sym, refl, ap, ◌∙◌, subst, inl, inr, ⊎_elim, arith, length-append, le-ltb, lt-ltb, le-leb, leb-true}
 use lib.Utf8.{scalar, scalars, next, encode, encodes, low_scalar, scalar_cases}
 use Rattle.std.specs.Int.{is_in_range}
 use Rattle.std.proofs.lemmas.Bool.{and_parts, and_from, cases_eq, cases_lt, false≢true}
-use Rattle.std.proofs.lemmas.Str.{IsUtf8-from_ascii, length-encode, len_utf8_bounds}
+use Rattle.std.proofs.lemmas.Str.{length-encode, len_utf8_bounds, encode_ascii}
 use Rattle.std.proofs.lemmas.Bool.Decides.{nat_tests}
-use Rattle.std.proofs.str.Laws.{one, two, three, four}
 use Rattle.encoding.specs.Utf8.{Row, after, refused, row, walks, is_text, Text}
+
+-- ---- the bytes of a character, by its range
+two : (c : ℕ) → 128 ≤ c → c < 2048 → encode c ≡ (192 + c / 64) ∷ next c ∷ []
+unfolding encode
+two c l h = rw (le-ltb c 128 l, lt-ltb c 2048 h) refl
+
+three : (c : ℕ) → 2048 ≤ c → c < 65536 → encode c ≡ (224 + c / 4096) ∷ next (c / 64) ∷ next c ∷ []
+unfolding encode
+three c l h = rw (le-ltb c 128 (omega arith), le-ltb c 2048 l, lt-ltb c 65536 h) refl
+
+four : (c : ℕ) → 65536 ≤ c → encode c ≡ (240 + c / 262144) ∷ next (c / 4096) ∷ next (c / 64) ∷ next c ∷ []
+unfolding encode
+four c l = rw (le-ltb c 128 (omega arith), le-ltb c 2048 (omega arith), le-ltb c 65536 l) refl
 
 -- ---- a lead byte and its row
 pub data Lead : ℕ → Row → Type 0 where
@@ -114,7 +126,7 @@ text_encode c is = by (cases_lt c 128) (cases_lt c 2048) (cases_lt c 65536) (sca
     by4 g l (inr m) (inr n) = of_four (next (c / 4096)) (next (c / 64)) (next c) (quad (omega arith) (omega arith)) (omega arith) (omega arith) (omega arith) (omega arith) (omega arith) (omega arith)
 
     by : (c < 128) ⊎ (128 ≤ c) → (c < 2048) ⊎ (2048 ≤ c) → (c < 65536) ⊎ (65536 ≤ c) → (c < 55296) ⊎ ((57344 ≤ c) × (c < 1114112)) → is_text (encode c) ≡ true
-    by (inl l) _ _ _ = ap is_text (one c l) ∙ walks_lead [] (ascii l)
+    by (inl l) _ _ _ = ap is_text (encode_ascii c l) ∙ walks_lead [] (ascii l)
     by (inr g) (inl l) _ _ = ap is_text (two c g l) ∙ of_two (next c) (pair (omega arith) (omega arith)) (omega arith) (omega arith)
     by (inr _) (inr g) (inl l) u = ap is_text (three c g l) ∙ by3 g l u (cases_eq _ 224) (cases_eq _ 237)
     by (inr _) (inr _) (inr g) u = ap is_text (four c g) ∙ by4 g (⊎_elim (λ v. omega arith) (λ v. v.1) u) (cases_eq _ 240) (cases_eq _ 244)
@@ -190,7 +202,7 @@ three_due b low high s e k =
 
 starts : {b : ℕ} {r : Row} (s : List ℕ) → Lead b r → (elim r [ after n l h ↦ walks n l h s | refused ↦ false ]) ≡ true → Starts (b ∷ s)
 unfolding Starts
-starts {b} s (ascii h) e = (b, s, low_scalar b (omega arith), sym (ap (λ f. f ++ s) (one b h)))
+starts {b} s (ascii h) e = (b, s, low_scalar b (omega arith), sym (ap (λ f. f ++ s) (encode_ascii b h)))
 starts {b} s (pair l h) e =
     let f = next_due 0 128 191 s e in
     subst (λ u. Starts (b ∷ u)) (sym f.is) (two_bytes b f.x f.rest l h f.low_x f.x_high)
@@ -230,7 +242,3 @@ text_encodes (c ∷ cs) is =
 
 pub text_decides : (s : List ℕ) → Decides (is_text s) (Text s)
 text_decides s = (spelt (length s) s (omega arith), λ u. ap is_text (sym u.1.1) ∙ text_encodes u.0 u.1.0)
-
--- bytes of ASCII are text
-pub text_ascii : (s : List ℕ) → IsAscii s → is_text s ≡ true
-text_ascii s h = (text_decides s).1 (IsUtf8-from_ascii s h)

@@ -3,7 +3,8 @@
 --   past      the bytes after what was read
 --   past_of    the same of a reader that answers those bytes alone
 --   verdict   whether it could be read
-use Rattle.std.specs.Prelude.{ℕ, zero, suc, List, [], ◌∷◌, Ok, Err, Result}
+--   Steps     one step of a walk over entries that are due
+use Rattle.std.specs.Prelude.{◌≡◌, ℕ, zero, suc, List, [], ◌∷◌, Some, None, Option, Ok, Err, Result}
 use Rattle.std.specs.Borrow.{Bor}
 use Rattle.encoding.specs.declared.fault.WireFault.{WireFault}
 use Rattle.encoding.specs.Reading.{Reading, thence, named}
@@ -27,3 +28,9 @@ past_of (Err f) = Err f
 abbrev pub verdict : {X : Type 0} → Reading X → Result (Unit {0}) WireFault
 verdict (Ok p) = Ok tt
 verdict (Err f) = Err f
+
+-- one step of a walk over entries that are due: none was left, and those bytes follow; or one was read, and the others are due after it; or one cannot be read, and none is due any more
+abbrev pub Steps : {E X : Type 0} → (E → X) → (E → Type 0) → Reading (List X) → Option (Result E WireFault) → Reading (List X) → List ℕ → Type 0
+Steps says holds due None after rest = due ≡ Ok ([], rest)
+Steps says holds due (Some (Ok e)) after rest = (due ≡ named (λ xs. says e ∷ xs) after) × holds e
+Steps says holds due (Some (Err f)) after rest = (due ≡ Err f) × (after ≡ Ok ([], rest))

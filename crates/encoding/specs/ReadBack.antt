@@ -24,10 +24,8 @@ pub record FieldsReadBack : Type 0 where
   pub texts : (bs rest : List ℕ) → length bs < 2 ^ 32 → plain_text bs ≡ Ok tt → text (packed bs ++ rest) ≡ Ok (bs, rest)
   -- a number that can be a client id
   pub client_ids : (n : ℕ) (rest : List ℕ) → client_id n ≡ Ok tt → client_id_in (shortest n ++ rest) ≡ Ok (n, rest)
-  -- a number that can be a count, of 32 bits
-  pub counts_of_32 : (n : ℕ) (rest : List ℕ) → count n ≡ Ok tt → count_in 32 (shortest n ++ rest) ≡ Ok (n, rest)
-  -- and of 64
-  pub counts_of_64 : (n : ℕ) (rest : List ℕ) → count n ≡ Ok tt → count_in 64 (shortest n ++ rest) ≡ Ok (n, rest)
+  -- a number that can be a count, at every width of seven bits or more
+  pub counts : (width n : ℕ) (rest : List ℕ) → 7 ≤ width → count n ≡ Ok tt → count_in width (shortest n ++ rest) ≡ Ok (n, rest)
   -- bytes that can be a presence text
   pub presence_texts : (bs rest : List ℕ) → presence_text bs ≡ Ok tt → presence_text_in (packed bs ++ rest) ≡ Ok (bs, rest)
 

@@ -1,7 +1,7 @@
 -- What a reader answers, by the bytes that its references point to.
 --   Reading   a value and the bytes after it, or a fault
---   read      what a reader's answer says, where the value borrows nothing
---   read_as    the same of a value that borrows, by what it means
+--   read_as    what a reader's answer says, by what its value means
+--   read      the same where the value means itself
 --   bytes     the bytes of a part of the input
 --   thence    reading goes on where a reading ended
 --   named     a reading by another name
@@ -14,15 +14,14 @@ use Rattle.encoding.specs.declared.fault.WireFault.{WireFault}
 abbrev pub Reading : Type 0 → Type 0
 Reading X = Result (X × List ℕ) WireFault
 
--- what a reader's answer says, where the value borrows nothing
-abbrev pub read : {X : Type 0} → Result (X × Bor (List ℕ)) WireFault → Reading X
-read (Ok p) = Ok (p.0, p.1.now)
-read (Err f) = Err f
-
--- the same of a value that borrows, by what it means
+-- what a reader's answer says, by what its value means
 abbrev pub read_as : {X Y : Type 0} → (X → Y) → Result (X × Bor (List ℕ)) WireFault → Reading Y
 read_as means (Ok p) = Ok (means p.0, p.1.now)
 read_as means (Err f) = Err f
+
+-- the same where the value means itself
+abbrev pub read : {X : Type 0} → Result (X × Bor (List ℕ)) WireFault → Reading X
+read = read_as (λ x. x)
 
 -- the bytes of a part of the input
 abbrev pub bytes : Bor (List ℕ) → List ℕ

@@ -4,10 +4,8 @@
 --   walks      the bytes are those that are still due, and then characters to the end
 --   is_text     the bytes are characters to the end, by the table
 --   Text       the bytes are those of scalar values, each in its shortest form, end to end
---   followers  what comes after the bytes that follow a lead byte
---   after_char  what comes after the first character
 -- Assumes nothing.
-use Rattle.std.specs.Prelude.{◌≡◌, ℕ, zero, suc, Bool, true, false, cond, ◌&&◌, List, [], ◌∷◌, Some, None, Option}
+use Rattle.std.specs.Prelude.{◌≡◌, ℕ, zero, suc, Bool, true, false, cond, ◌&&◌, List, [], ◌∷◌}
 use Rattle.std.proofs.Math.Utf8.{scalars, encodes}
 use Rattle.std.specs.Int.{is_in_range}
 
@@ -43,14 +41,3 @@ is_text s = walks 0 0x80 0xbf s
 -- some scalar values, none a surrogate and none past 10FFFF, of which these are the bytes
 abbrev pub Text : List ℕ → Type 0
 Text s = (cs : List ℕ) × ((scalars cs ≡ true) × (encodes cs ≡ s))
-
--- what comes after so many bytes, the first from low to high and the others from 80 to BF
-abbrev pub followers : (due low high : ℕ) → List ℕ → Option (List ℕ)
-followers zero low high s = Some s
-followers (suc due) low high [] = None
-followers (suc due) low high (b ∷ s) = cond (is_in_range low high b) (followers due 0x80 0xbf s) None
-
--- what comes after the lead byte and those that follow it, by its row
-abbrev pub after_char : List ℕ → Option (List ℕ)
-after_char [] = None
-after_char (b ∷ s) = elim (row b) [ after n l h ↦ followers n l h s | refused ↦ None ]

@@ -1,30 +1,100 @@
-// Entries that stand one after another: a layout says how one is read, and the walk over them is the same for all.
-ghost use Rattle.std.specs.Prelude.{◌≡◌, ℕ, List};
-ghost use Rattle.encoding.specs.Entries.{entries, past, past_of};
-ghost use Rattle.encoding.specs.Reading.{Reading};
+// Entries that stand one after another: an entry says how it is read, and the walk over them is the same for all.
+ghost use Rattle.std.specs.Iterator.{at_most};
+ghost use Rattle.std.specs.Prelude.{◌≡◌, ℕ, List, IfOk};
+ghost use Rattle.encoding.specs.Entries.{entries, past, past_of, verdict, Steps};
+ghost use Rattle.encoding.specs.Reading.{Reading, read_as};
 
 use crate::fault::WireFault;
+use std::marker::PhantomData;
 
-// The layout of one entry.
-pub trait Layout {
-    // what an entry is
+// An entry that can be read; it may hold parts of the input.
+pub trait Decode<'a>: Drop {
+    // what an entry says
     ghost item: { Type 0 };
+
+    // what this one says
+    ghost says: { Self → item };
+
+    // what holds of each that was read
+    ghost holds: { Self → Type 0 } = { λ _. Unit {0} };
 
     // how one is read
     ghost entry: { List ℕ → Reading item };
 
-    // The bytes after the first entry.
-    fn skip(s: &[u8]) -> Result<&[u8], WireFault>
-        ensures { past_of result ≡ past (entry s.now) };
+    // The first entry, and the bytes after it.
+    fn read(s: &'a [u8]) -> Result<(Self, &'a [u8]), WireFault>
+        ensures reads { read_as says result ≡ entry s.now }
+        ensures known { IfOk result (λ p. holds p.0) };
+}
+
+// So many entries, read one after another; the first that cannot be read is the last.
+#[derive(Drop)]
+pub struct Entries<'a, E> {
+    // the bytes that are still to be read
+    pub rest: &'a [u8],
+    // how many entries are left in them
+    pub left: usize,
+    of: PhantomData<E>,
+}
+
+impl<'a, E: Decode<'a>> Entries<'a, E> {
+    // The `left` entries that the bytes begin with.
+    pub fn new(rest: &'a [u8], left: usize) -> Entries<'a, E>
+        ensures bytes { result.rest.now ≡ rest.now }
+        ensures count { result.left ≡ left }
+    {
+        Entries {
+            rest,
+            left,
+            of: PhantomData,
+        }
+    }
+}
+
+impl<'a, E: Decode<'a>> Iterator for Entries<'a, E> {
+    type Item = Result<E, WireFault>;
+
+    ghost next_gives = { λ s r t. Steps E.says E.holds (entries E.entry s.left s.rest.now) r (entries E.entry t.left t.rest.now) t.rest.now };
+
+    ghost remaining = { λ s. at_most s.left };
+
+    // The next entry, or why it cannot be read.
+    fn next(&mut self) -> Option<Result<E, WireFault>> {
+        if self.left == 0 {
+            return None;
+        }
+        match E::read(self.rest) {
+            Ok((e, rest)) => {
+                self.rest = rest;
+                self.left -= 1;
+                Some(Ok(e))
+            }
+            Err(fault) => {
+                self.left = 0;
+                Some(Err(fault))
+            }
+        }
+    }
+}
+
+// Whether the bytes begin with `n` entries.
+pub fn check_entries<'a, E: Decode<'a>>(s: &'a [u8], n: usize) -> Result<(), WireFault>
+    ensures { result ≡ verdict (entries E.Decode.entry n s.now) }
+{
+    for e in Entries::<E>::new(s, n) {
+        e?;
+    }
+    Ok(())
 }
 
 // The bytes after `n` entries.
-pub fn skip_entries<L: Layout>(s: &[u8], n: usize) -> Result<&[u8], WireFault>
-    ensures { past_of result ≡ past (entries L.Layout.entry n s.now) }
+pub fn skip_entries<'a, E: Decode<'a>>(s: &'a [u8], n: usize) -> Result<&'a [u8], WireFault>
+    ensures { past_of result ≡ past (entries E.Decode.entry n s.now) }
 {
-    let mut rest = s;
-    for _i in 0..n {
-        rest = L::skip(rest)?;
+    let mut walk = Entries::<E>::new(s, n);
+    // tried as a `for` over `walk.by_ref()`: a proof then does not know where the walk ended
+    while let Some(e) = walk.next() {
+        e?;
     }
-    Ok(rest)
+    Ok(walk.rest)
 }

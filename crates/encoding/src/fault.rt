@@ -2,23 +2,29 @@
 ghost use Rattle.std.specs.Prelude.{◌≡◌};
 ghost use Rattle.encoding.specs.Fault.{wire_number};
 
-use std::fmt;
+use thiserror::Error;
 
 // What is wrong with the bytes, or with a value given in their place.
-#[derive(Clone, Copy, Debug, PartialEq, Eq)]
+#[derive(Clone, Copy, Debug, PartialEq, Eq, Error)]
 pub enum WireFault {
     // a number goes on past its tenth byte, or is too large for its width
-    InvalidVarInt,
+    #[error("a number goes on past its tenth byte or is past its width")]
+    InvalidVarInt = 1,
     // the bytes end too soon
-    EndOfBuffer,
+    #[error("the bytes end too soon")]
+    EndOfBuffer = 2,
     // a text that is not UTF-8, or a value that the layout does not have
-    UnexpectedValue,
+    #[error("a text is not UTF-8 or a value has no meaning")]
+    UnexpectedValue = 3,
     // a client id from 2^53 on
-    InvalidClientId,
+    #[error("a client id is not below 2^53")]
+    InvalidClientId = 4,
     // more than 64 entries are declared
-    TooManyEntries,
+    #[error("more than 64 entries are declared")]
+    TooManyEntries = 5,
     // a presence text of more than 256 bytes
-    TextTooLong,
+    #[error("a presence text is longer than 256 bytes")]
+    TextTooLong = 6,
 }
 
 impl WireFault {
@@ -26,33 +32,6 @@ impl WireFault {
     pub fn number(self) -> u8
         ensures { result ≡ wire_number self }
     {
-        match self {
-            WireFault::InvalidVarInt => 1,
-            WireFault::EndOfBuffer => 2,
-            WireFault::UnexpectedValue => 3,
-            WireFault::InvalidClientId => 4,
-            WireFault::TooManyEntries => 5,
-            WireFault::TextTooLong => 6,
-        }
-    }
-}
-
-impl fmt::Display for WireFault {
-    // The fault in words.
-    fn fmt<W: fmt::Write>(&self, f: &mut fmt::Formatter<W>) -> fmt::Result {
-        match *self {
-            WireFault::InvalidVarInt => write!(
-                f,
-                "a number goes on past its tenth byte or is past its width"
-            ),
-            WireFault::EndOfBuffer => write!(f, "the bytes end too soon"),
-            WireFault::UnexpectedValue => write!(
-                f,
-                "a text is not UTF-8 or a value has no meaning"
-            ),
-            WireFault::InvalidClientId => write!(f, "a client id is not below 2^53"),
-            WireFault::TooManyEntries => write!(f, "more than 64 entries are declared"),
-            WireFault::TextTooLong => write!(f, "a presence text is longer than 256 bytes"),
-        }
+        self as u8
     }
 }

@@ -1,7 +1,6 @@
 // From bytes to values and back, as the sync protocol's encoding has them: numbers, buffers, texts, ids and counts.
 #![tactic(auto)]
 
-pub mod chosen_out;
 pub mod entries;
 pub mod entries_out;
 pub mod fault;

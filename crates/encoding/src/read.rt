@@ -1,11 +1,11 @@
 // Fields: buffers, texts, client ids, counts and presence texts, each from a slice to the value and the rest.
-ghost use Rattle.std.specs.Prelude.{◌≡◌, ℕ, ◌^◌, ◌<◌, ◌≤◌, List, IfOk};
-ghost use Rattle.encoding.specs.Fields.{buffer, text, client_id, client_id_in, count, count_in, presence_text, presence_text_in};
+ghost use Rattle.std.specs.Prelude.{◌≡◌, ◌^◌, ◌<◌, ◌≤◌, IfOk};
+ghost use Rattle.encoding.specs.Fields.{buffer, plain_text, text, client_id, client_id_in, count, count_in, presence_text, presence_text_in};
 ghost use Rattle.encoding.specs.Reading.{read, read_as, bytes};
 
 use crate::fault::WireFault;
 use crate::utf8::is_text;
-use crate::var_uint::{read_var_u32, read_var_u64};
+use crate::var_uint::{VarInt, read_var};
 
 // The largest client id, 2^53 - 1: the largest whole number that every client can count with.
 pub const MAX_CLIENT_ID: u64 = 9007199254740991;
@@ -20,7 +20,7 @@ pub const MAX_PRESENCE_TEXT: usize = 256;
 pub fn read_buf(s: &[u8]) -> Result<(&[u8], &[u8]), WireFault>
     ensures { read_as bytes result ≡ buffer s.now }
 {
-    let (n, rest) = read_var_u32(s)?;
+    let (n, rest) = read_var::<u32>(s)?;
     let n = n as usize;
     if n <= rest.len() {
         Ok(rest.split_at(n))
@@ -29,16 +29,24 @@ pub fn read_buf(s: &[u8]) -> Result<(&[u8], &[u8]), WireFault>
     }
 }
 
+// Whether bytes can be a text: UTF-8.
+pub fn check_text(text: &[u8]) -> Result<(), WireFault>
+    ensures { result ≡ plain_text text.now }
+{
+    if is_text(text) {
+        Ok(())
+    } else {
+        Err(WireFault::UnexpectedValue)
+    }
+}
+
 // The bytes of a text, a part of the input, and the bytes after it.
 pub fn read_string(s: &[u8]) -> Result<(&[u8], &[u8]), WireFault>
     ensures { read_as bytes result ≡ text s.now }
 {
     let (part, rest) = read_buf(s)?;
-    if is_text(part) {
-        Ok((part, rest))
-    } else {
-        Err(WireFault::UnexpectedValue)
-    }
+    check_text(part)?;
+    Ok((part, rest))
 }
 
 // Whether a number can be a client id.
@@ -57,7 +65,7 @@ pub fn read_client_id(s: &[u8]) -> Result<(u64, &[u8]), WireFault>
     ensures reads { read result ≡ client_id_in s.now }
     ensures fits { IfOk result (λ p. p.0 < 2 ^ 53) }
 {
-    let (id, rest) = read_var_u64(s)?;
+    let (id, rest) = read_var::<u64>(s)?;
     check_client_id(id)?;
     Ok((id, rest))
 }
@@ -73,22 +81,13 @@ pub fn check_count(n: u64) -> Result<(), WireFault>
     }
 }
 
-// A count of 32 bits, and the bytes after it.
-pub fn read_count_u32(s: &[u8]) -> Result<(usize, &[u8]), WireFault>
-    ensures reads { read result ≡ count_in 32 s.now }
+// A count of a width, and the bytes after it.
+pub fn read_count<N: VarInt>(s: &[u8]) -> Result<(usize, &[u8]), WireFault>
+    ensures reads { read result ≡ count_in N.VarInt.BITS s.now }
     ensures few { IfOk result (λ p. p.0 ≤ 64) }
 {
-    let (n, rest) = read_var_u32(s)?;
-    check_count(n as u64)?;
-    Ok((n as usize, rest))
-}
-
-// A count of 64 bits, and the bytes after it.
-pub fn read_count_u64(s: &[u8]) -> Result<(usize, &[u8]), WireFault>
-    ensures reads { read result ≡ count_in 64 s.now }
-    ensures few { IfOk result (λ p. p.0 ≤ 64) }
-{
-    let (n, rest) = read_var_u64(s)?;
+    let (n, rest) = read_var::<N>(s)?;
+    let n = n.to_u64();
     check_count(n)?;
     Ok((n as usize, rest))
 }
@@ -97,12 +96,11 @@ pub fn read_count_u64(s: &[u8]) -> Result<(usize, &[u8]), WireFault>
 pub fn check_presence_text(text: &[u8]) -> Result<(), WireFault>
     ensures { result ≡ presence_text text.now }
 {
-    if !is_text(text) {
-        Err(WireFault::UnexpectedValue)
-    } else if text.len() > MAX_PRESENCE_TEXT {
-        Err(WireFault::TextTooLong)
-    } else {
+    check_text(text)?;
+    if text.len() <= MAX_PRESENCE_TEXT {
         Ok(())
+    } else {
+        Err(WireFault::TextTooLong)
     }
 }
 

@@ -3,8 +3,11 @@ ghost use Rattle.std.specs.Prelude.{◌≡◌, ℕ, [], ◌∷◌};
 ghost use Rattle.encoding.specs.Sink.{Put};
 ghost use Rattle.encoding.specs.TwoSinks.{room_of_counter, Counts, room_of_filler, Fills, Filled};
 
+use thiserror::Error;
+
 // The bytes do not fit the buffer, or a length does not fit 32 bits.
-#[derive(Clone, Copy, Debug, PartialEq, Eq)]
+#[derive(Clone, Copy, Debug, PartialEq, Eq, Error)]
+#[error("the bytes do not fit the buffer")]
 pub struct BufferTooShort;
 
 // Bytes go in while there is room.

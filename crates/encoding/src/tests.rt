@@ -1,30 +1,37 @@
 // Examples of the readers and writers, at the edges of each rule.
+ghost use Rattle.std.specs.Prelude.{ℕ, ◌^◌, ◌-◌, nat_lt};
+ghost use Rattle.encoding.specs.VarUint.{var_uint};
+ghost use Rattle.encoding.specs.Writing.{shortest};
+
+use crate::entries::{Decode, Entries, check_entries, skip_entries};
+use crate::entries_out::{Choice, Chosen, Entry};
 use crate::fault::WireFault;
 use crate::read::*;
-use crate::sink::{BufferTooShort, Filler};
+use crate::sink::{BufferTooShort, Filler, Sink};
 use crate::utf8::is_text;
 use crate::var_uint::*;
-use crate::write::{write_buf, write_var_u64};
+use crate::write::{write_buf, write_var};
 use std::test::Fail;
 
 // What was read, or the fault, and how many bytes are left.
 fn told<T>(r: Result<(T, &[u8]), WireFault>) -> Result<(T, usize), WireFault> {
-    match r {
-        Ok((x, rest)) => Ok((x, rest.len())),
-        Err(f) => Err(f),
-    }
+    r.map(|(x, rest)| (x, rest.len()))
 }
 
 #[test]
 fn numbers_end_below_128(rt: HostRuntime) -> Result<(), Fail> {
-    assert_eq!(rt; told(read_var_u8(&[0x80, 0x00]))?, (0, 0), "an overlong 0");
     assert_eq!(rt;
-        told(read_var_u32(&[0xff, 0xff, 0xff, 0xff, 0x0f]))?,
+        told(read_var::<u8>(&[0x80, 0x00]))?,
+        (0, 0),
+        "an overlong 0"
+    );
+    assert_eq!(rt;
+        told(read_var::<u32>(&[0xff, 0xff, 0xff, 0xff, 0x0f]))?,
         (4294967295, 0)
     );
-    assert_eq!(rt; told(read_var_u8(&[0xff, 0x01, 0x07]))?, (255, 1));
+    assert_eq!(rt; told(read_var::<u8>(&[0xff, 0x01, 0x07]))?, (255, 1));
     assert_eq!(rt;
-        told(read_var_u64(&[0xff, 0xff, 0xff, 0xff, 0xff, 0xff, 0xff, 0xff, 0xff, 0x01]))?,
+        told(read_var::<u64>(&[0xff, 0xff, 0xff, 0xff, 0xff, 0xff, 0xff, 0xff, 0xff, 0x01]))?,
         (u64::MAX, 0)
     );
     Ok(())
@@ -33,28 +40,31 @@ fn numbers_end_below_128(rt: HostRuntime) -> Result<(), Fail> {
 #[test]
 fn numbers_past_their_width_are_refused(rt: HostRuntime) {
     assert_eq!(rt;
-        told(read_var_u32(&[0x80, 0x80, 0x80, 0x80, 0x10])),
+        told(read_var::<u32>(&[0x80, 0x80, 0x80, 0x80, 0x10])),
         Err(WireFault::InvalidVarInt)
     );
     assert_eq!(rt;
-        told(read_var_u8(&[0x80, 0x02])),
+        told(read_var::<u8>(&[0x80, 0x02])),
         Err(WireFault::InvalidVarInt)
     );
     assert_eq!(rt;
-        told(read_var_u64(&[0xff, 0xff, 0xff, 0xff, 0xff, 0xff, 0xff, 0xff, 0xff, 0x02])),
+        told(read_var::<u64>(&[0xff, 0xff, 0xff, 0xff, 0xff, 0xff, 0xff, 0xff, 0xff, 0x02])),
         Err(WireFault::InvalidVarInt)
     );
 }
 
 #[test]
 fn numbers_that_go_on_are_cut_or_refused(rt: HostRuntime) {
-    assert_eq!(rt; told(read_var_u64(&[0x80; 9])), Err(WireFault::EndOfBuffer));
     assert_eq!(rt;
-        told(read_var_u64(&[0x80; 10])),
+        told(read_var::<u64>(&[0x80; 9])),
+        Err(WireFault::EndOfBuffer)
+    );
+    assert_eq!(rt;
+        told(read_var::<u64>(&[0x80; 10])),
         Err(WireFault::InvalidVarInt),
         "a tenth byte that goes on"
     );
-    assert_eq!(rt; told(read_var_u64(&[])), Err(WireFault::EndOfBuffer));
+    assert_eq!(rt; told(read_var::<u64>(&[])), Err(WireFault::EndOfBuffer));
 }
 
 #[test]
@@ -71,15 +81,18 @@ fn client_ids_are_below_2_to_the_53(rt: HostRuntime) -> Result<(), Fail> {
 
 #[test]
 fn counts_go_to_64(rt: HostRuntime) -> Result<(), Fail> {
-    assert_eq!(rt; told(read_count_u32(&[64]))?, (64, 0));
-    assert_eq!(rt; told(read_count_u64(&[65])), Err(WireFault::TooManyEntries));
+    assert_eq!(rt; told(read_count::<u32>(&[64]))?, (64, 0));
     assert_eq!(rt;
-        told(read_count_u32(&[0x80, 0x80, 0x80, 0x80, 0x10])),
+        told(read_count::<u64>(&[65])),
+        Err(WireFault::TooManyEntries)
+    );
+    assert_eq!(rt;
+        told(read_count::<u32>(&[0x80, 0x80, 0x80, 0x80, 0x10])),
         Err(WireFault::InvalidVarInt),
         "32 bits"
     );
     assert_eq!(rt;
-        told(read_count_u64(&[0x80, 0x80, 0x80, 0x80, 0x10])),
+        told(read_count::<u64>(&[0x80, 0x80, 0x80, 0x80, 0x10])),
         Err(WireFault::TooManyEntries),
         "64 bits"
     );
@@ -196,7 +209,7 @@ fn numbers_are_written_in_their_shortest_spelling(rt: HostRuntime) -> Result<(),
             out: &mut out,
             at: 0,
         };
-        write_var_u64(&mut filler, n)?;
+        write_var(&mut filler, n)?;
         let end = filler.at;
         assert_eq!(rt; out.get(0..end), Some(bytes));
     }
@@ -219,4 +232,79 @@ fn buffers_go_in_whole_or_not_at_all(rt: HostRuntime) {
         (Err(BufferTooShort), [0xee; 4]),
         "one byte too short"
     );
+}
+
+// An entry of eight bits.
+#[derive(Clone, Copy, Debug, PartialEq, Eq)]
+struct Small(u8);
+
+impl<'a> Decode<'a> for Small {
+    ghost item = { ℕ };
+
+    ghost says = { λ e. e.0 };
+
+    ghost entry = { var_uint (2 ^ 8 - 1) };
+
+    // A number.
+    fn read(s: &'a [u8]) -> Result<(Small, &'a [u8]), WireFault> {
+        let (n, rest) = read_var(s)?;
+        Ok((Small(n), rest))
+    }
+}
+
+impl Entry for Small {
+    ghost out = { λ e. shortest e.0 };
+
+    // Its number.
+    fn write<S: Sink>(&self, sink: &mut S) -> Result<(), BufferTooShort> {
+        write_var(sink, self.0)
+    }
+}
+
+// Entries below a number.
+struct Below(u8);
+
+impl Choice<Small> for Below {
+    ghost takes = { λ c e. nat_lt e.0 c.0 };
+
+    // Whether it is below.
+    fn takes_entry(&self, e: &Small) -> bool {
+        e.0 < self.0
+    }
+}
+
+#[test]
+fn entries_are_read_one_after_another(rt: HostRuntime) -> Result<(), Fail> {
+    let bytes = [7, 0xff, 0x01, 9];
+    let mut walk = Entries::<Small>::new(&bytes, 4);
+    assert_eq!(rt; walk.next(), Some(Ok(Small(7))));
+    assert_eq!(rt; walk.next(), Some(Ok(Small(255))));
+    assert_eq!(rt; walk.next(), Some(Ok(Small(9))));
+    assert_eq!(rt; walk.next(), Some(Err(WireFault::EndOfBuffer)));
+    assert_eq!(rt; walk.next(), None);
+    assert_eq!(rt; check_entries::<Small>(&bytes, 3), Ok(()));
+    assert_eq!(rt;
+        check_entries::<Small>(&bytes, 4),
+        Err(WireFault::EndOfBuffer)
+    );
+    let rest = skip_entries::<Small>(&bytes, 2)?;
+    assert_eq!(rt; rest, [9].as_slice());
+    Ok(())
+}
+
+#[test]
+fn chosen_entries_are_written_with_their_count(rt: HostRuntime) -> Result<(), Fail> {
+    let entries = [Small(200), Small(3), Small(4)];
+    let mut out = [0xee; 6];
+    assert_eq!(rt; Chosen::by(&entries, &Below(100)).count(), 2);
+    assert_eq!(rt; Chosen::by(&entries, &Below(100)).fill(&mut out, 1)?, 3);
+    assert_eq!(rt; out, [0xee, 2, 3, 4, 0xee, 0xee]);
+    assert_eq!(rt; Chosen::all(&entries).measure()?, 5);
+    assert_eq!(rt;
+        Chosen::all(&entries).fill(&mut out, 2),
+        Err(BufferTooShort)
+    );
+    assert_eq!(rt; Chosen::all(&entries).fill(&mut out, 1)?, 5);
+    assert_eq!(rt; out, [0xee, 3, 0xc8, 0x01, 3, 4]);
+    Ok(())
 }

@@ -1,16 +1,95 @@
 // varUints: seven bits to a byte, the lowest first, and the first byte below 128 ends the number.
-ghost use Rattle.std.specs.Prelude.{◌≡◌, ◌-◌, ◌^◌, ◌<◌, ◌≤◌, IfOk};
-ghost use Rattle.encoding.specs.Reading.{read};
+ghost use Rattle.std.specs.Prelude.{◌≡◌, ℕ, ◌-◌, ◌^◌, ◌<◌, ◌≤◌};
+ghost use Rattle.encoding.specs.Reading.{read, read_as};
 ghost use Rattle.encoding.specs.VarUint.{number_in, var_uint};
+ghost use Rattle.std.proofs.Common.{rules};
 
 use crate::fault::WireFault;
 
 // At most this many bytes make a number.
 const MOST_BYTES: u8 = 10;
 
+// An unsigned number of a width that the format has.
+pub trait VarInt: Sized {
+    // how many bits it has
+    const BITS: u32;
+
+    ghost BITS: { ℕ };
+
+    // the number that it is
+    ghost value: { Self → ℕ };
+
+    // The number in 64 bits.
+    fn to_u64(self) -> u64
+        ensures { result ≡ value self };
+
+    // The number, of one in 64 bits that fits.
+    fn from_u64(n: u64) -> Self
+        requires { n < 2 ^ BITS }
+        ensures { value result ≡ n };
+
+    // it takes a byte's seven bits, and 64 bits take it
+    ghost within: { (7 ≤ BITS) × (BITS ≤ 64) };
+}
+
+impl VarInt for u8 {
+    const BITS: u32 = 8;
+
+    ghost BITS = { 8 };
+
+    ghost value = { λ n. n };
+
+    ghost within = { Prim.search rules };
+
+    fn to_u64(self) -> u64 {
+        self.into()
+    }
+
+    fn from_u64(n: u64) -> u8 {
+        n as u8
+    }
+}
+
+impl VarInt for u32 {
+    const BITS: u32 = 32;
+
+    ghost BITS = { 32 };
+
+    ghost value = { λ n. n };
+
+    ghost within = { Prim.search rules };
+
+    fn to_u64(self) -> u64 {
+        u64::from(self)
+    }
+
+    fn from_u64(n: u64) -> u32 {
+        n as u32
+    }
+}
+
+impl VarInt for u64 {
+    const BITS: u32 = 64;
+
+    ghost BITS = { 64 };
+
+    ghost value = { λ n. n };
+
+    ghost within = { Prim.search rules };
+
+    fn to_u64(self) -> u64 {
+        self
+    }
+
+    fn from_u64(n: u64) -> u64 {
+        n
+    }
+}
+
 // A number of at most `room` bytes that is at most `top`, and the bytes after it.
 fn number_in(s: &[u8], room: u8, top: u64) -> Result<(u64, &[u8]), WireFault>
-    requires { (0 < room) × (127 ≤ top) }
+    requires room { 0 < room }
+    requires top { 127 ≤ top }
     ensures { read result ≡ number_in room top s.now }
 {
     match s {
@@ -33,34 +112,18 @@ fn number_in(s: &[u8], room: u8, top: u64) -> Result<(u64, &[u8]), WireFault>
     }
 }
 
-// A number that is at most `top`, at every width.
-fn read_var(s: &[u8], top: u64) -> Result<(u64, &[u8]), WireFault>
-    requires { 127 ≤ top }
-    ensures reads { read result ≡ var_uint top s.now }
-    ensures fits { IfOk result (λ p. p.0 ≤ top) }
+// The largest number of a width.
+fn top<N: VarInt>() -> u64
+    ensures largest { result ≡ 2 ^ N.VarInt.BITS - 1 }
+    ensures wide { 127 ≤ result }
 {
-    number_in(s, MOST_BYTES, top)
+    u64::MAX >> (64 - N::BITS)
 }
 
-// A number of 8 bits, and the bytes after it.
-pub fn read_var_u8(s: &[u8]) -> Result<(u8, &[u8]), WireFault>
-    ensures { read result ≡ var_uint (2 ^ 8 - 1) s.now }
+// A number of a width, and the bytes after it.
+pub fn read_var<N: VarInt>(s: &[u8]) -> Result<(N, &[u8]), WireFault>
+    ensures { read_as N.VarInt.value result ≡ var_uint (2 ^ N.VarInt.BITS - 1) s.now }
 {
-    let (n, rest) = read_var(s, u8::MAX as u64)?;
-    Ok((n as u8, rest))
-}
-
-// A number of 32 bits, and the bytes after it.
-pub fn read_var_u32(s: &[u8]) -> Result<(u32, &[u8]), WireFault>
-    ensures { read result ≡ var_uint (2 ^ 32 - 1) s.now }
-{
-    let (n, rest) = read_var(s, u32::MAX as u64)?;
-    Ok((n as u32, rest))
-}
-
-// A number of 64 bits, and the bytes after it.
-pub fn read_var_u64(s: &[u8]) -> Result<(u64, &[u8]), WireFault>
-    ensures { read result ≡ var_uint (2 ^ 64 - 1) s.now }
-{
-    read_var(s, u64::MAX)
+    let (n, rest) = number_in(s, MOST_BYTES, top::<N>())?;
+    Ok((N::from_u64(n), rest))
 }

@@ -1,26 +1,31 @@
 // Numbers, buffers and fields, written to a sink: each goes in whole, or is refused and the sink stays as it is.
-ghost use Rattle.std.specs.Prelude.{◌≡◌, ◌≤◌, length, take};
+ghost use Rattle.std.specs.Prelude.{◌≡◌};
 ghost use Rattle.encoding.specs.declared.write.WriteFault.TheVariants.{Wire, Short};
 ghost use Rattle.encoding.specs.Sink.{Put};
 ghost use Rattle.encoding.specs.Writing.{shortest, buffer_out, text_out, client_id_out, count_out, presence_text_out, Writes, told};
 
 use crate::fault::WireFault;
-use crate::read::{check_client_id, check_count, check_presence_text};
+use crate::read::{check_client_id, check_count, check_presence_text, check_text};
 use crate::sink::{BufferTooShort, Sink};
-use crate::utf8::is_text;
+use crate::var_uint::VarInt;
+use arrayvec::ArrayVec;
+use thiserror::Error;
 
 // At most this many bytes spell a number of 64 bits.
 const LONGEST: usize = 10;
 
 // Why a value is not written.
-#[derive(Clone, Copy, Debug, PartialEq, Eq)]
+#[derive(Clone, Copy, Debug, PartialEq, Eq, Error)]
 pub enum WriteFault {
     // it could not be read again
+    #[error(transparent)]
     Wire(WireFault),
     // its bytes do not fit the buffer, or its length does not fit 32 bits
+    #[error("the bytes do not fit the buffer")]
     Short,
 }
 
+// By hand, as the next: clauses name the fault that `?` makes, and a derived `From` does not say it.
 impl From<WireFault> for WriteFault {
     ghost from_gives = { λ f r. r ≡ Wire f };
 
@@ -39,47 +44,29 @@ impl From<BufferTooShort> for WriteFault {
     }
 }
 
-// The shortest spelling of a number, at the front of an array, and how many bytes it has.
-fn spelling(n: u64) -> ([u8; LONGEST], usize)
-    ensures spells { take result.1 result.0 ≡ shortest n }
-    ensures long { result.1 ≡ length (shortest n) }
-    ensures within { result.1 ≤ 10 }
+// The shortest spelling of a number.
+fn spelling(n: u64) -> ArrayVec<u8, LONGEST>
+    ensures { result.items ≡ shortest n }
 {
-    let mut bytes = [0; LONGEST];
-    let mut len = 0;
+    let mut bytes = ArrayVec::new();
     let mut high = n;
     while high >= 128 {
-        bytes[len] = 128 + (high % 128) as u8;
+        bytes.push(128 + (high % 128) as u8);
         high /= 128;
-        len += 1;
     }
-    bytes[len] = high as u8;
-    (bytes, len + 1)
+    bytes.push(high as u8);
+    bytes
 }
 
-// A number of 64 bits, in its shortest spelling; most have one byte.
-pub fn write_var_u64<S: Sink>(sink: &mut S, n: u64) -> Result<(), BufferTooShort>
-    ensures { Put S.Sink.room S.Sink.step sink.old (shortest n) result sink.new }
+// A number, in its shortest spelling; most have one byte.
+pub fn write_var<S: Sink, N: VarInt>(sink: &mut S, n: N) -> Result<(), BufferTooShort>
+    ensures { Put S.Sink.room S.Sink.step sink.old (shortest (N.VarInt.value n)) result sink.new }
 {
+    let n = n.to_u64();
     if n < 128 {
         return sink.put(n as u8);
     }
-    let (bytes, len) = spelling(n);
-    sink.put_all(&bytes[..len])
-}
-
-// A number of 32 bits, in its shortest spelling.
-pub fn write_var_u32<S: Sink>(sink: &mut S, n: u32) -> Result<(), BufferTooShort>
-    ensures { Put S.Sink.room S.Sink.step sink.old (shortest n) result sink.new }
-{
-    write_var_u64(sink, u64::from(n))
-}
-
-// A number of 8 bits, in its shortest spelling.
-pub fn write_var_u8<S: Sink>(sink: &mut S, n: u8) -> Result<(), BufferTooShort>
-    ensures { Put S.Sink.room S.Sink.step sink.old (shortest n) result sink.new }
-{
-    write_var_u32(sink, u32::from(n))
+    sink.put_all(spelling(n).as_slice())
 }
 
 // A buffer: its length, then its bytes.
@@ -90,11 +77,10 @@ pub fn write_buf<S: Sink>(sink: &mut S, bytes: &[u8]) -> Result<(), BufferTooSho
     if len > u32::MAX as usize {
         return Err(BufferTooShort);
     }
-    let (_, width) = spelling(len as u64);
-    if sink.left() < width + len {
+    if sink.left() < spelling(len as u64).len() + len {
         return Err(BufferTooShort);
     }
-    write_var_u64(sink, len as u64)?;
+    write_var(sink, len as u64)?;
     sink.put_all(bytes)
 }
 
@@ -102,9 +88,7 @@ pub fn write_buf<S: Sink>(sink: &mut S, bytes: &[u8]) -> Result<(), BufferTooSho
 pub fn write_string<S: Sink>(sink: &mut S, text: &[u8]) -> Result<(), WriteFault>
     ensures { Writes S.Sink.room S.Sink.step sink.old (text_out text.now) result sink.new }
 {
-    if !is_text(text) {
-        return Err(WriteFault::Wire(WireFault::UnexpectedValue));
-    }
+    check_text(text)?;
     write_buf(sink, text)?;
     Ok(())
 }
@@ -114,7 +98,7 @@ pub fn write_client_id<S: Sink>(sink: &mut S, id: u64) -> Result<(), WriteFault>
     ensures { Writes S.Sink.room S.Sink.step sink.old (client_id_out id) result sink.new }
 {
     check_client_id(id)?;
-    write_var_u64(sink, id)?;
+    write_var(sink, id)?;
     Ok(())
 }
 
@@ -123,7 +107,7 @@ pub fn write_count<S: Sink>(sink: &mut S, n: usize) -> Result<(), WriteFault>
     ensures { Writes S.Sink.room S.Sink.step sink.old (count_out n) result sink.new }
 {
     check_count(n as u64)?;
-    write_var_u64(sink, n as u64)?;
+    write_var(sink, n as u64)?;
     Ok(())
 }
 

@@ -2,4 +2,4 @@ mod Signs
 mod Agreed
 mod Steps
 mod Texts
-pub mod FirstLines
+mod LineLists

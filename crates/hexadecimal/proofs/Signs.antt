@@ -1,5 +1,5 @@
 -- What a character's sign tells of the character, and the other way.
-use Rattle.std.proofs.Common.{◌≡◌, ℕ, ◌+◌, ◌<◌, ◌≤◌, ◌⊎◌, inl, inr, arith}
+use Rattle.std.proofs.Common.{◌≡◌, ℕ, ◌<◌, arith}
 use Rattle.std.proofs.lemmas.Bool.Decides.{nat_tests}
 use Rattle.hexadecimal.specs.declared.Sign.TheVariants as sign
 use Rattle.hexadecimal.specs.Line.{sign_of, DigitOf, Blank, numeral, upper, lower, space, tab, carriage}
@@ -9,22 +9,14 @@ pub digit_small : (c d : ℕ) → sign_of c ≡ sign.Digit d → d < 16
 unfolding sign_of
 digit_small c d e = grind (arith, nat_tests)
 
--- a digit's range
-ranges : (c d : ℕ) → sign_of c ≡ sign.Digit d → ((d < 10) × (c ≡ 48 + d)) ⊎ (((10 ≤ d) × (d < 16) × (c ≡ 55 + d)) ⊎ ((10 ≤ d) × (d < 16) × (c ≡ 87 + d)))
-unfolding sign_of
-ranges c d e = grind (arith, nat_tests)
-
--- a blank's code
-codes : (c : ℕ) → sign_of c ≡ sign.Blank → (c ≡ 32) ⊎ ((c ≡ 9) ⊎ (c ≡ 13))
-unfolding sign_of
-codes c e = grind (arith, nat_tests)
-
 -- what the sign says of the character
 pub digit_of : (c d : ℕ) → sign_of c ≡ sign.Digit d → DigitOf c d
-digit_of c d e = elim (ranges c d e) [ inl p ↦ numeral p.0 p.1 | inr q ↦ elim q [ inl p ↦ upper p.0 p.1 p.2 | inr p ↦ lower p.0 p.1 p.2 ] ]
+unfolding sign_of
+digit_of c d e = grind (arith, nat_tests, numeral, upper, lower)
 
 pub blank_of : (c : ℕ) → sign_of c ≡ sign.Blank → Blank c
-blank_of c e = elim (codes c e) [ inl p ↦ space p | inr q ↦ elim q [ inl p ↦ tab p | inr p ↦ carriage p ] ]
+unfolding sign_of
+blank_of c e = grind (arith, nat_tests, space, tab, carriage)
 
 pub comment_of : (c : ℕ) → sign_of c ≡ sign.Comment → c ≡ 35
 unfolding sign_of

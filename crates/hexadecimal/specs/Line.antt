@@ -1,9 +1,11 @@
 -- What a line of hexadecimal bytes says, and what reading it answers. Index:
---   is_blank, within, sign_of   what a character of a line is
---   prefixed, hex_from, hex_line   what reading a line answers, computed
+--   is_blank, sign_of   what a character of a line is
+--   value_in                  an answer, its value seen by a function
+--   hex_from, hex_line        what reading a line answers, computed
 --   DigitOf, Blank, Spells    the format in its own words: which bytes a line spells
---   value_in, Answered         how a reader's answer is compared with the line's
-use Rattle.std.specs.Prelude.{◌≡◌, ℕ, ◌+◌, ◌-◌, ◌*◌, ◌<◌, ◌≤◌, Bool, cond, ◌&&◌, ◌||◌, ◌⊎◌, List, [], ◌∷◌, ◌++◌, map, Ok, Err, Result, ◌==◌, nat_le}
+--   Answered                  how a reader's answer is compared with the line's
+use Rattle.std.specs.Prelude.{◌≡◌, ℕ, ◌+◌, ◌*◌, ◌<◌, ◌≤◌, Bool, if◌then◌else◌, ◌||◌, ◌⊎◌, List, [], ◌∷◌, map, Ok, Err, Result, ◌==◌, nat_lt}
+use Rattle.std.specs.Char.{digit_value}
 use Rattle.hexadecimal.specs.declared.HexFault.{HexFault}
 use Rattle.hexadecimal.specs.declared.HexFault.TheVariants.{NotADigit, HalfByte, Memory}
 use Rattle.hexadecimal.specs.declared.Sign.{Sign}
@@ -13,18 +15,14 @@ use Rattle.hexadecimal.specs.declared.Sign.TheVariants as sign
 abbrev pub is_blank : ℕ → Bool
 is_blank c = c == 32 || (c == 9 || c == 13)
 
--- whether a character lies from low to high
-abbrev pub within : ℕ → ℕ → ℕ → Bool
-within low high c = nat_le low c && nat_le c high
-
 -- what a character is: a blank, the start of a comment, a digit of either case with its value, or none of these
 unfoldable pub sign_of : ℕ → Sign
-sign_of c = cond (is_blank c) sign.Blank (cond (c == 35) sign.Comment (cond (within 48 57 c) (sign.Digit (c - 48)) (cond (within 65 70 c) (sign.Digit (c - 55)) (cond (within 97 102 c) (sign.Digit (c - 87)) sign.Other))))
+sign_of c = if is_blank c then sign.Blank else (if c == 35 then sign.Comment else (if nat_lt (digit_value c) 16 then sign.Digit (digit_value c) else sign.Other))
 
--- an answer with the bytes xs before its own
-abbrev pub prefixed : List ℕ → Result (List ℕ) HexFault → Result (List ℕ) HexFault
-prefixed xs (Ok ys) = Ok (xs ++ ys)
-prefixed xs (Err e) = Err e
+-- an answer, its value seen by f
+abbrev pub value_in : {X Y : Type 0} → (X → Y) → Result X HexFault → Result Y HexFault
+value_in f (Ok x) = Ok (f x)
+value_in f (Err e) = Err e
 
 -- what a line's signs from column k on answer: two digits are a byte, and a fault tells its column
 abbrev pub hex_from : ℕ → List Sign → Result (List ℕ) HexFault
@@ -36,7 +34,7 @@ hex_from k (sign.Digit h ∷ []) = Err (HalfByte k)
 hex_from k (sign.Digit h ∷ sign.Blank ∷ s) = Err (HalfByte k)
 hex_from k (sign.Digit h ∷ sign.Comment ∷ s) = Err (HalfByte k)
 hex_from k (sign.Digit h ∷ sign.Other ∷ s) = Err (NotADigit (k + 1))
-hex_from k (sign.Digit h ∷ sign.Digit l ∷ s) = prefixed ((16 * h + l) ∷ []) (hex_from (k + 2) s)
+hex_from k (sign.Digit h ∷ sign.Digit l ∷ s) = value_in (λ bs. (16 * h + l) ∷ bs) (hex_from (k + 2) s)
 
 -- what a line answers: its columns are counted from 1
 abbrev pub hex_line : List ℕ → Result (List ℕ) HexFault
@@ -60,11 +58,6 @@ pub data Spells : List ℕ → List ℕ → Type 0 where
   comment : {c : ℕ} {s : List ℕ} → c ≡ 35 → Spells (c ∷ s) []
   blank : {c : ℕ} {s bs : List ℕ} → Blank c → Spells s bs → Spells (c ∷ s) bs
   byte : {a b h l x : ℕ} {s bs : List ℕ} → DigitOf a h → DigitOf b l → x ≡ 16 * h + l → Spells s bs → Spells (a ∷ b ∷ s) (x ∷ bs)
-
--- an answer, its value seen by f
-abbrev pub value_in : {X Y : Type 0} → (X → Y) → Result X HexFault → Result Y HexFault
-value_in f (Ok x) = Ok (f x)
-value_in f (Err e) = Err e
 
 -- an answer r, its value seen by f, is a; want of memory is the only exception
 abbrev pub Answered : {X Y : Type 0} → (X → Y) → Result X HexFault → Result Y HexFault → Type 0

@@ -1,25 +1,21 @@
 -- How a row of bytes is written. Index:
---   digit_char     the digit of a value below 16, upper-case
---   continued     the bytes after the first, each after a space
+--   byte_text     a byte as two upper-case digits
 --   written       the whole text
 --   fault_text     a fault in words
-use Rattle.std.specs.Prelude.{ℕ, ◌+◌, ◌/◌, ◌%◌, cond, List, [], ◌∷◌, ◌++◌, codes, decimal, nat_lt}
+use Rattle.std.specs.Prelude.{ℕ, ◌/◌, ◌%◌, true, List, [], ◌∷◌, ◌++◌, codes, decimal}
+use Rattle.std.specs.List.{flat_map}
+use Rattle.std.specs.Fmt.{digit_glyph}
 use Rattle.hexadecimal.specs.declared.HexFault.{HexFault}
 use Rattle.hexadecimal.specs.declared.HexFault.TheVariants.{NotADigit, HalfByte, Memory}
 
--- the digit of a value below 16, upper-case
-abbrev pub digit_char : ℕ → ℕ
-digit_char d = cond (nat_lt d 10) (48 + d) (55 + d)
-
--- the bytes after the first, each after a space
-abbrev pub continued : List ℕ → List ℕ
-continued [] = []
-continued (b ∷ bs) = 32 ∷ digit_char (b / 16) ∷ digit_char (b % 16) ∷ continued bs
+-- a byte as two upper-case digits
+abbrev pub byte_text : ℕ → List ℕ
+byte_text b = digit_glyph true (b / 16) ∷ digit_glyph true (b % 16) ∷ []
 
 -- the text of a row of bytes: two digits each, one space between two bytes
 abbrev pub written : List ℕ → List ℕ
 written [] = []
-written (b ∷ bs) = digit_char (b / 16) ∷ digit_char (b % 16) ∷ continued bs
+written (b ∷ bs) = byte_text b ++ flat_map (λ c. 32 ∷ byte_text c) bs
 
 -- a fault in words, with its column
 abbrev pub fault_text : HexFault → List ℕ

@@ -4,9 +4,10 @@
 ghost use Rattle.std.specs.Prelude.{◌≡◌, ℕ, ◌<◌, List, IfOk, Some, Ok, vec_items, string_bytes};
 ghost use Rattle.hexadecimal.specs.declared.HexFault.TheVariants.{Memory};
 ghost use Rattle.hexadecimal.specs.Line.{sign_of, hex_line, Spells, Answered};
-ghost use Rattle.hexadecimal.specs.Text.{digit_char, fault_text, written};
+ghost use Rattle.hexadecimal.specs.Text.{fault_text, written};
 
 use std::alloc::{AllocError, AllocFailed, Global};
+use std::error::Error;
 use std::fmt;
 
 pub mod lines;
@@ -21,6 +22,9 @@ pub enum HexFault {
     // There is not memory enough for the bytes.
     Memory,
 }
+
+// These impls are written by hand: a derive states neither the fault that a `?` makes nor the text, and the clauses need both.
+impl Error for HexFault {}
 
 impl From<AllocError> for HexFault {
     ghost from_gives = { λ _ r. r ≡ Memory };
@@ -62,21 +66,25 @@ enum Sign {
     Other,
 }
 
-// Tells blanks, the start of a comment and digits of either case apart.
-fn sign_of(c: u8) -> Sign
-    ensures { result ≡ sign_of c }
-{
-    match c {
-        b' ' | b'\t' | b'\r' => Sign::Blank,
-        b'#' => Sign::Comment,
-        b'0'..=b'9' => Sign::Digit(c - b'0'),
-        b'A'..=b'F' => Sign::Digit(c - b'A' + 10),
-        b'a'..=b'f' => Sign::Digit(c - b'a' + 10),
-        _ => Sign::Other,
+impl From<u8> for Sign {
+    ghost from_gives = { λ c sign. sign ≡ sign_of c };
+
+    // Tells blanks, the start of a comment and digits of either case apart.
+    #[tactic(auto, unfolding(crate::specs::Line::sign_of))]
+    fn from(c: u8) -> Sign {
+        match c {
+            b' ' | b'\t' | b'\r' => Sign::Blank,
+            b'#' => Sign::Comment,
+            _ => match char::from(c).to_digit(16) {
+                Some(digit) => Sign::Digit(digit as u8),
+                None => Sign::Other,
+            },
+        }
     }
 }
 
 // The bytes of a line, or its first fault.
+#[tactic(auto, using(crate::proofs::Steps::reading))]
 pub fn parse_line(heap: Global, line: &[u8]) -> Result<Vec<u8>, HexFault>
     ensures reads { Answered vec_items result (hex_line line.now) }
     ensures spells { IfOk result (λ v. Spells line.now v.items) }
@@ -85,19 +93,18 @@ pub fn parse_line(heap: Global, line: &[u8]) -> Result<Vec<u8>, HexFault>
     let mut bytes = Vec::new(heap);
     let mut half = None;
     for (i, c) in line.iter().enumerate() {
-        match (sign_of(*c), half) {
-            (Sign::Blank, None) => {}
+        half = match (Sign::from(*c), half) {
+            (Sign::Blank, None) => None,
             (Sign::Comment, None) => return Ok(bytes),
-            (Sign::Digit(first), None) => half = Some(first),
+            (Sign::Digit(first), None) => Some(first),
             (Sign::Digit(second), Some(first)) => {
                 bytes.push(16 * first + second)?;
-                half = None;
+                None
             }
             // The digit before this character stands at column `i`.
-            (Sign::Blank, Some(_)) => return Err(HexFault::HalfByte(i)),
-            (Sign::Comment, Some(_)) => return Err(HexFault::HalfByte(i)),
+            (Sign::Blank | Sign::Comment, Some(_)) => return Err(HexFault::HalfByte(i)),
             (Sign::Other, _) => return Err(HexFault::NotADigit(i + 1)),
-        }
+        };
     }
     match half {
         None => Ok(bytes),
@@ -105,32 +112,33 @@ pub fn parse_line(heap: Global, line: &[u8]) -> Result<Vec<u8>, HexFault>
     }
 }
 
-// The upper-case digit of a value below 16.
-fn digit_char(d: u8) -> char
-    requires { d < 16 }
-    ensures { result ≡ digit_char d }
-{
-    if d < 10 {
-        char::from(b'0' + d)
-    } else {
-        char::from(b'A' + (d - 10))
+// Bytes, printed in upper-case digits with one space between two bytes.
+#[derive(Clone, Copy, Debug)]
+pub struct Hex<'a>(pub &'a [u8]);
+
+impl fmt::Display for Hex<'_> {
+    ghost output = { λ hex. Some (written hex.0.now) };
+
+    // Two digits for each byte, and a space before each byte but the first.
+    #[tactic(auto, using(crate::proofs::Texts::writing))]
+    fn fmt<W: fmt::Write>(&self, f: &mut fmt::Formatter<W>) -> fmt::Result {
+        if let &[first, ref rest @ ..] = self.0 {
+            write!(f, "{first:02X}")?;
+            for &b in rest {
+                write!(f, " {b:02X}")?;
+            }
+        }
+        Ok(())
     }
 }
 
-// The bytes in upper-case digits, with one space between two bytes.
+// The bytes as text, which reads back as these bytes.
+#[tactic(auto, using(crate::proofs::Texts::written_spells))]
 pub fn write_hex(heap: Global, bytes: &[u8]) -> Result<String, AllocError>
     ensures text { IfOk result (λ t. string_bytes t ≡ written bytes.now) }
     ensures spells { IfOk result (λ t. Spells (string_bytes t) bytes.now) }
 {
-    let mut text = String::new(heap);
-    for (i, b) in bytes.iter().enumerate() {
-        if i > 0 {
-            text.push(' ')?;
-        }
-        text.push(digit_char(*b / 16))?;
-        text.push(digit_char(*b % 16))?;
-    }
-    Ok(text)
+    Hex(bytes).to_string(heap)
 }
 
 #[cfg(test)]

@@ -2,31 +2,33 @@
 ghost use Rattle.std.specs.Prelude.{◌≡◌};
 ghost use Rattle.inspect.specs.declared.normal.NoForm.TheVariants.{Unread};
 
+use encoding::entries::Entries;
 use encoding::fault::WireFault;
-use encoding::read::read_count_u64;
+use encoding::read::read_count;
 use encoding::write::WriteFault;
-use hexadecimal::write_hex;
 use message::message::Message;
-use message::presence::read_presence_entry;
+use message::presence::PresenceEntry;
 use message::update::{Presence, PresenceUpdate};
-use message::write::{Draft, Outgoing, write};
+use message::write::{Draft, write};
 use state_vector::keyed::look_up;
 use state_vector::vector::StateVector;
-use std::alloc::Global;
-use std::fmt;
-use std::fmt::Write;
+use thiserror::Error;
 
 // Why a message has no normal form.
-#[derive(Clone, Copy)]
-enum NoForm {
+#[derive(Clone, Copy, Debug, Error)]
+pub enum NoForm {
     // a client stands twice in a presence update
+    #[error("client {0} stands twice")]
     Twice(u64),
     // a part that cannot be read
+    #[error("{0}")]
     Unread(WireFault),
     // more bytes than were received
+    #[error("it would have more bytes than were received")]
     Long,
 }
 
+// By hand, since a derived `From` does not say which fault it makes.
 impl From<WireFault> for NoForm {
     ghost from_gives = { λ f r. r ≡ Unread f };
 
@@ -36,6 +38,7 @@ impl From<WireFault> for NoForm {
     }
 }
 
+// By hand, since it makes either of two variants.
 impl From<WriteFault> for NoForm {
     // A part that could not be read again, or too many bytes.
     fn from(fault: WriteFault) -> NoForm {
@@ -46,75 +49,31 @@ impl From<WriteFault> for NoForm {
     }
 }
 
-impl fmt::Display for NoForm {
-    // The reason in words.
-    fn fmt<W: fmt::Write>(&self, f: &mut fmt::Formatter<W>) -> fmt::Result {
-        match *self {
-            NoForm::Twice(client) => write!(f, "client {client} stands twice"),
-            NoForm::Unread(fault) => write!(f, "{fault}"),
-            NoForm::Long => write!(f, "it would have more bytes than were received"),
-        }
-    }
-}
-
-// Whether an entry of the client is there already.
-fn has_client(update: &PresenceUpdate, client: u64) -> bool {
-    look_up(update.entries(), client).is_some()
-}
-
 // The entries of a presence update, each client once.
 fn collect_presence(part: &[u8]) -> Result<PresenceUpdate, NoForm> {
-    let (n, mut rest) = read_count_u64(part)?;
+    let (n, rest) = read_count::<u64>(part)?;
     let mut update = PresenceUpdate::new();
-    for _ in 0..n {
-        let (entry, after) = read_presence_entry(rest)?;
-        if has_client(&update, entry.client) {
+    for entry in Entries::<PresenceEntry>::new(rest, n) {
+        let entry = entry?;
+        if look_up(update.entries(), entry.client).is_some() {
             return Err(NoForm::Twice(entry.client));
         }
-        PresenceUpdate::put(&mut update, Presence::new(entry)?)?;
-        rest = after;
+        update.put(Presence::new(entry)?)?;
     }
     Ok(update)
 }
 
-// A message at the front of a buffer, and how many bytes it has.
-fn fill<M: Outgoing>(m: &M, out: &mut [u8]) -> Result<usize, NoForm> {
-    Ok(write(m, out)?)
-}
-
 // The normal form of a message, at the front of a buffer, and how many bytes it has.
-fn fill_normal(m: Message, out: &mut [u8]) -> Result<usize, NoForm> {
-    let draft = match m {
-        Message::SyncStep1(part) => return fill(&StateVector::read(part)?, out),
-        Message::Awareness(part) => return fill(&collect_presence(part)?, out),
-        Message::SyncStep2(part) => Draft::SyncStep2(part),
-        Message::Update(part) => Draft::Update(part),
-        Message::AuthDenied(reason) => Draft::AuthDenied(reason),
-        Message::AuthGranted => Draft::AuthGranted,
-        Message::AwarenessQuery => Draft::AwarenessQuery,
-        Message::Custom(tag, part) => Draft::Custom(tag, part),
+pub fn write_normal(m: Message, out: &mut [u8]) -> Result<usize, NoForm> {
+    let len = match m {
+        Message::SyncStep1(part) => write(&StateVector::read(part)?, out)?,
+        Message::Awareness(part) => write(&collect_presence(part)?, out)?,
+        Message::SyncStep2(part) => write(&Draft::SyncStep2(part), out)?,
+        Message::Update(part) => write(&Draft::Update(part), out)?,
+        Message::AuthDenied(reason) => write(&Draft::AuthDenied(reason), out)?,
+        Message::AuthGranted => write(&Draft::AuthGranted, out)?,
+        Message::AwarenessQuery => write(&Draft::AwarenessQuery, out)?,
+        Message::Custom(tag, part) => write(&Draft::Custom(tag, part), out)?,
     };
-    fill(&draft, out)
-}
-
-// The normal form of a message where it differs from the bytes received, or that it has none.
-pub fn explain_normal(
-    heap: Global,
-    out: &mut String,
-    m: Message,
-    received: &[u8],
-) -> anyhow::Result<()> {
-    // the normal form is never longer
-    let mut bytes = vec![in heap; 0u8; received.len()]?;
-    match fill_normal(m, bytes.as_mut_slice()) {
-        Ok(n) => {
-            bytes.truncate(n);
-            if bytes.as_slice() != received {
-                let bytes = write_hex(heap, bytes.as_slice())?;
-                writeln!(out, "    normal form: {bytes}")?;
-            }
-        }
-        Err(reason) => writeln!(out, "    no normal form: {reason}")?,
-    }
-    Ok(())
+    Ok(len)
 }

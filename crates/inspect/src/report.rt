@@ -1,202 +1,234 @@
 // Messages in words.
-use crate::normal::explain_normal;
-use encoding::fault::WireFault;
-use encoding::read::{read_count_u32, read_count_u64};
-use hexadecimal::{parse_line, write_hex};
+use crate::normal::write_normal;
+use encoding::entries::Entries;
+use encoding::read::read_count;
+use hexadecimal::{Hex, parse_line};
 use message::message::Message;
-use message::messages::{End, Placed, Row, read_messages};
-use message::presence::{PresenceState, read_presence_entry};
-use state_vector::vector::read_vector_entry;
+use message::messages::{End, MessageReader, Placed};
+use message::presence::PresenceEntry;
+use state_vector::vector::VectorEntry;
 use std::alloc::Global;
+use std::fmt;
 use std::fmt::Write;
+use std::iter::once;
 
-// A number of things, with the word for one or for several.
-fn counted(heap: Global, n: usize, one: &str, several: &str) -> anyhow::Result<String> {
-    let word = if n == 1 { one } else { several };
-    Ok(format!(in heap; "{n} {word}")?)
+// A number of things, with the word for one of them.
+#[derive(Clone, Copy)]
+struct Counted(usize, &'static str);
+
+impl fmt::Display for Counted {
+    // The number and the word, which has an s where it is not one thing.
+    fn fmt<W: fmt::Write>(&self, f: &mut fmt::Formatter<W>) -> fmt::Result {
+        let Counted(n, word) = *self;
+        write!(f, "{n} {word}")?;
+        if n != 1 {
+            write!(f, "s")?;
+        }
+        Ok(())
+    }
 }
 
 // A text as it is, with its control characters spelt out.
-fn shown_text(heap: Global, text: &[u8]) -> anyhow::Result<String> {
-    let mut out = String::new(heap);
-    match std::str::from_utf8(text) {
-        Ok(text) => {
-            for c in text.chars() {
-                if c.is_control() {
-                    let code = u32::from(c);
-                    write!(out, "\\u{{{code:x}}}")?;
-                } else {
-                    out.push(c)?;
+#[derive(Clone, Copy)]
+struct Shown<'a>(&'a [u8]);
+
+impl fmt::Display for Shown<'_> {
+    // The characters, or the bytes where they are no text.
+    fn fmt<W: fmt::Write>(&self, f: &mut fmt::Formatter<W>) -> fmt::Result {
+        let Ok(text) = std::str::from_utf8(self.0) else {
+            return write!(f, "{}", Hex(self.0));
+        };
+        for c in text.chars() {
+            if c.is_control() {
+                write!(f, "{}", c.escape_unicode())?;
+            } else {
+                write!(f, "{c}")?;
+            }
+        }
+        Ok(())
+    }
+}
+
+// What is printed of a line, with normal forms if these are asked for.
+#[derive(Drop)]
+pub struct Report {
+    text: String,
+    normal: bool,
+}
+
+impl fmt::Display for Report {
+    // The words so far.
+    fn fmt<W: fmt::Write>(&self, f: &mut fmt::Formatter<W>) -> fmt::Result {
+        f.write_str(self.text.as_str())
+    }
+}
+
+impl Report {
+    // A report with no words yet.
+    pub fn new(heap: Global, normal: bool) -> Report {
+        Report {
+            text: String::new(heap),
+            normal,
+        }
+    }
+
+    // The memory that the words are kept in.
+    fn heap(&self) -> Global {
+        *self.text.allocator()
+    }
+
+    // A line in words: its messages and how it ended, or why it is not hexadecimal; nothing of a line with no bytes.
+    pub fn add_line(&mut self, number: u64, line: &[u8]) -> anyhow::Result<()> {
+        match parse_line(self.heap(), line) {
+            Ok(bytes) if bytes.is_empty() => {}
+            Ok(bytes) => {
+                writeln!(self.text, "line {number}")?;
+                self.add_bytes(bytes.as_slice())?;
+            }
+            Err(fault) => writeln!(self.text, "line {number}\n  not hexadecimal, {fault}")?,
+        }
+        Ok(())
+    }
+
+    // The messages that bytes hold, with their normal forms if these are asked for, and how they end.
+    fn add_bytes(&mut self, bytes: &[u8]) -> anyhow::Result<()> {
+        let mut reader = MessageReader::new(bytes);
+        let messages: Vec<Placed> = reader.by_ref().collect(self.heap())?;
+        // a message ends where the next one begins, the last where reading stopped
+        let ends = messages
+            .iter()
+            .skip(1)
+            .map(|p| p.place)
+            .chain(once(reader.place()));
+        for (i, (placed, end)) in messages.iter().zip(ends).enumerate() {
+            let Placed { place, message } = *placed;
+            write!(self.text, "  message {i} at byte {place}: ")?;
+            self.add_message(message)?;
+            if self.normal
+                && let Some(received) = bytes.get(place..end)
+            {
+                self.add_normal_form(message, received)?;
+            }
+        }
+        self.add_end(messages.len(), reader.end(), bytes.len())
+    }
+
+    // A message, with what it holds.
+    fn add_message(&mut self, m: Message) -> anyhow::Result<()> {
+        match m {
+            Message::SyncStep1(part) => self.add_vector(part),
+            Message::SyncStep2(part) => self.add_part("sync step 2, an update", part),
+            Message::Update(part) => self.add_part("sync update", part),
+            Message::Awareness(part) => self.add_presence(part),
+            Message::AuthDenied(reason) => {
+                let size = Counted(reason.len(), "byte");
+                let reason = Shown(reason);
+                Ok(writeln!(self.text, "auth denied, a reason of {size}: {reason}")?)
+            }
+            Message::AuthGranted => Ok(writeln!(self.text, "auth granted")?),
+            Message::AwarenessQuery => Ok(writeln!(self.text, "awareness query")?),
+            Message::Custom(tag, part) => self.add_part(format_args!("custom tag {tag}"), part),
+        }
+    }
+
+    // A part by its length, and its bytes where there are any.
+    fn add_part(&mut self, name: impl fmt::Display + Drop, part: &[u8]) -> anyhow::Result<()> {
+        let size = Counted(part.len(), "byte");
+        writeln!(self.text, "{name}, {size}")?;
+        if !part.is_empty() {
+            let bytes = Hex(part);
+            writeln!(self.text, "    {bytes}")?;
+        }
+        Ok(())
+    }
+
+    // The entries of a vector, a line each. They were read once as a part of the message, so no reader refuses them here.
+    fn add_vector(&mut self, part: &[u8]) -> anyhow::Result<()> {
+        let size = Counted(part.len(), "byte");
+        writeln!(self.text, "sync step 1, a vector of {size}")?;
+        let (n, rest) = read_count::<u32>(part)?;
+        let mut entries = Entries::<VectorEntry>::new(rest, n);
+        for entry in entries.by_ref() {
+            let VectorEntry { client, clock } = entry?;
+            writeln!(self.text, "    client {client}, clock {clock}")?;
+        }
+        self.add_left_over(entries.rest)
+    }
+
+    // The entries of a presence update, a line each. Those too were read once.
+    fn add_presence(&mut self, part: &[u8]) -> anyhow::Result<()> {
+        let size = Counted(part.len(), "byte");
+        writeln!(self.text, "awareness, a presence update of {size}")?;
+        let (n, rest) = read_count::<u64>(part)?;
+        let mut entries = Entries::<PresenceEntry>::new(rest, n);
+        for entry in entries.by_ref() {
+            self.add_presence_entry(entry?)?;
+        }
+        self.add_left_over(entries.rest)
+    }
+
+    // An entry of a presence update.
+    fn add_presence_entry(&mut self, entry: PresenceEntry) -> anyhow::Result<()> {
+        let PresenceEntry {
+            client,
+            clock,
+            state,
+        } = entry;
+        write!(self.text, "    client {client}, clock {clock}, ")?;
+        match state {
+            None => writeln!(self.text, "null")?,
+            Some(text) => writeln!(self.text, "text {}", Shown(text))?,
+        }
+        Ok(())
+    }
+
+    // Bytes after the last entry, which no reader looks at.
+    fn add_left_over(&mut self, rest: &[u8]) -> anyhow::Result<()> {
+        if !rest.is_empty() {
+            let bytes = Hex(rest);
+            writeln!(self.text, "    and bytes that are ignored: {bytes}")?;
+        }
+        Ok(())
+    }
+
+    // The normal form of a message where it differs from the bytes received, or why it has none.
+    fn add_normal_form(&mut self, m: Message, received: &[u8]) -> anyhow::Result<()> {
+        // the normal form is never longer
+        let mut bytes = vec![in self.heap(); 0u8; received.len()]?;
+        match write_normal(m, bytes.as_mut_slice()) {
+            Ok(n) => {
+                bytes.truncate(n);
+                if bytes.as_slice() != received {
+                    let bytes = Hex(bytes.as_slice());
+                    writeln!(self.text, "    normal form: {bytes}")?;
                 }
             }
+            Err(reason) => writeln!(self.text, "    no normal form: {reason}")?,
         }
-        Err(_) => out.push_str(write_hex(heap, text)?.as_str())?,
+        Ok(())
     }
-    Ok(out)
-}
 
-// The entries of a vector, a line each.
-fn explain_vector(heap: Global, out: &mut String, part: &[u8]) -> anyhow::Result<()> {
-    let Ok((n, rest)) = read_count_u32(part) else {
-        return Ok(());
-    };
-    let mut rest = rest;
-    for _ in 0..n {
-        let Ok((entry, after)) = read_vector_entry(rest) else {
-            return Ok(());
-        };
-        let client = entry.client;
-        let clock = entry.clock;
-        writeln!(out, "    client {client}, clock {clock}")?;
-        rest = after;
-    }
-    explain_left_over(heap, out, rest)
-}
-
-// The entries of a presence update, a line each.
-fn explain_presence(heap: Global, out: &mut String, part: &[u8]) -> anyhow::Result<()> {
-    let Ok((n, rest)) = read_count_u64(part) else {
-        return Ok(());
-    };
-    let mut rest = rest;
-    for _ in 0..n {
-        let Ok((entry, after)) = read_presence_entry(rest) else {
-            return Ok(());
-        };
-        let client = entry.client;
-        let clock = entry.clock;
-        match entry.state {
-            PresenceState::Null => writeln!(out, "    client {client}, clock {clock}, null")?,
-            PresenceState::Live(text) => {
-                let text = shown_text(heap, text)?;
-                writeln!(out, "    client {client}, clock {clock}, text {text}")?;
+    // How the row of messages ended.
+    fn add_end(&mut self, count: usize, end: Option<End>, len: usize) -> anyhow::Result<()> {
+        let done = Counted(count, "message");
+        match end {
+            Some(End::Ended) => {
+                let size = Counted(len, "byte");
+                writeln!(self.text, "  done: {done}, {size}")?;
             }
-        }
-        rest = after;
-    }
-    explain_left_over(heap, out, rest)
-}
-
-// Bytes after the last entry, which no reader looks at.
-fn explain_left_over(heap: Global, out: &mut String, rest: &[u8]) -> anyhow::Result<()> {
-    if !rest.is_empty() {
-        let bytes = write_hex(heap, rest)?;
-        writeln!(out, "    and bytes that are ignored: {bytes}")?;
-    }
-    Ok(())
-}
-
-// A part by its length, and its bytes where there are any.
-fn explain_part(heap: Global, out: &mut String, name: &str, part: &[u8]) -> anyhow::Result<()> {
-    let size = counted(heap, part.len(), "byte", "bytes")?;
-    writeln!(out, "{name}, {size}")?;
-    if !part.is_empty() {
-        let bytes = write_hex(heap, part)?;
-        writeln!(out, "    {bytes}")?;
-    }
-    Ok(())
-}
-
-// A message in words, with what it holds.
-fn explain_message(heap: Global, out: &mut String, m: Message) -> anyhow::Result<()> {
-    match m {
-        Message::SyncStep1(part) => {
-            let size = counted(heap, part.len(), "byte", "bytes")?;
-            writeln!(out, "sync step 1, a vector of {size}")?;
-            explain_vector(heap, out, part)
-        }
-        Message::SyncStep2(part) => explain_part(heap, out, "sync step 2, an update", part),
-        Message::Update(part) => explain_part(heap, out, "sync update", part),
-        Message::Awareness(part) => {
-            let size = counted(heap, part.len(), "byte", "bytes")?;
-            writeln!(out, "awareness, a presence update of {size}")?;
-            explain_presence(heap, out, part)
-        }
-        Message::AuthDenied(reason) => {
-            let size = counted(heap, reason.len(), "byte", "bytes")?;
-            let reason = shown_text(heap, reason)?;
-            Ok(writeln!(out, "auth denied, a reason of {size}: {reason}")?)
-        }
-        Message::AuthGranted => Ok(writeln!(out, "auth granted")?),
-        Message::AwarenessQuery => Ok(writeln!(out, "awareness query")?),
-        Message::Custom(tag, part) => {
-            let name = format!(in heap; "custom tag {tag}")?;
-            explain_part(heap, out, name.as_str(), part)
-        }
-    }
-}
-
-// How the line ended.
-fn explain_end(heap: Global, out: &mut String, row: Row, len: usize) -> anyhow::Result<()> {
-    let done = counted(heap, row.count, "message", "messages")?;
-    match row.end {
-        Some(End::Ended) => {
-            let size = counted(heap, len, "byte", "bytes")?;
-            writeln!(out, "  done: {done}, {size}")?;
-        }
-        Some(End::Cut(place)) => writeln!(out, "  cut short at byte {place}, after {done}")?,
-        Some(End::Refused(place, fault)) => {
-            let number = fault.number();
-            let at = row.count;
-            writeln!(
-                out,
-                "  refused with {number} ({fault:?}: {fault}) at message {at}, byte {place}"
-            )?;
-        }
-        None => writeln!(out, "  more messages follow")?,
-    }
-    Ok(())
-}
-
-// The place after the message of a number: where the next one begins, or where the row ends.
-fn place_after(places: &[Placed], row: Row, number: usize, len: usize) -> usize {
-    let next = number.saturating_add(1);
-    match (places.get(next), row.end) {
-        (Some(p), _) if next < row.count => p.place,
-        (_, Some(End::Cut(place))) => place,
-        (_, Some(End::Refused(place, _))) => place,
-        (_, Some(End::Ended)) | (_, None) => len,
-    }
-}
-
-// The messages that bytes hold, with their normal forms if these are asked for, and how they end.
-fn explain_bytes(heap: Global, out: &mut String, bytes: &[u8], normal: bool) -> anyhow::Result<()> {
-    let first = Placed {
-        place: 0,
-        message: Message::AwarenessQuery,
-    };
-    // a message has a byte at least
-    let mut places = vec![in heap; first; bytes.len()]?;
-    let row = read_messages(bytes, places.as_mut_slice());
-    for (i, p) in places.iter().enumerate().take(row.count) {
-        let place = p.place;
-        write!(out, "  message {i} at byte {place}: ")?;
-        explain_message(heap, out, p.message)?;
-        let after = place_after(places.as_slice(), row, i, bytes.len());
-        if normal && let Some(received) = bytes.get(place..after) {
-            explain_normal(heap, out, p.message, received)?;
-        }
-    }
-    explain_end(heap, out, row, bytes.len())
-}
-
-// A line in words: its messages and how it ended, or why it is not hexadecimal; nothing of a line with no bytes.
-pub fn explain_line(
-    heap: Global,
-    number: u64,
-    line: &[u8],
-    normal: bool,
-) -> anyhow::Result<String> {
-    let mut out = String::new(heap);
-    match parse_line(heap, line) {
-        Ok(bytes) => {
-            if bytes.is_empty() {
-                return Ok(out);
+            Some(End::Cut(place)) => writeln!(
+                self.text,
+                "  cut short at byte {place}, after {done}"
+            )?,
+            Some(End::Refused(place, fault)) => {
+                let number = fault.number();
+                writeln!(
+                    self.text,
+                    "  refused with {number} ({fault:?}: {fault}) at message {count}, byte {place}"
+                )?;
             }
-            writeln!(out, "line {number}")?;
-            explain_bytes(heap, &mut out, bytes.as_slice(), normal)?;
+            None => writeln!(self.text, "  more messages follow")?,
         }
-        Err(fault) => writeln!(out, "line {number}\n  not hexadecimal, {fault}")?,
+        Ok(())
     }
-    Ok(out)
 }

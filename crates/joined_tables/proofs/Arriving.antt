@@ -1,10 +1,11 @@
 -- Entries that come to a table one after another, as a program brings them.
 use Rattle.std.proofs.Common.{◌≡◌, ℕ, ◌+◌, ◌≤◌, Bool, true, false, T, List, [], ◌∷◌, length, Some, None, Option, sym, refl, ap, ◌∙◌, subst, ⊎_elim, arith}
 use Rattle.std.proofs.lemmas.Bool.{true≢false, both_ways, and_parts, cases_Bool, cases_eq, cond-true, cond-false}
+use Rattle.std.specs.List.{list_all}
 use Rattle.state_vector.specs.Tables.{Order, ascends, entered, held, raised}
 use Rattle.state_vector.proofs.Entering.{held_other, held_own, length_entered, length_kept}
 use Rattle.state_vector.proofs.Keys.{same_rows}
-use Rattle.joined_tables.specs.Joined.{passing, all_pass, sound, Sound, admit, none, enter, gather, joined, table, Decided}
+use Rattle.joined_tables.specs.Joined.{passing, sound, Sound, admit, none, enter, gather, joined, table, Decided}
 use Rattle.joined_tables.proofs.Gathering.{up, same_table, enter_fine, joins_lawful}
 use Rattle.joined_tables.proofs.Mapping.{held_passes}
 
@@ -52,7 +53,7 @@ module _ {E : Type 0} (key : E → ℕ) (above : E → E → Bool) (fine : E →
 
       stays : sound key fine (entered key above d.0 e) ≡ true → entered key above d.0 e ≡ d.0
       stays s =
-          let p = and_parts (ascends key (entered key above d.0 e)) (all_pass fine (entered key above d.0 e)) s in
+          let p = and_parts (ascends key (entered key above d.0 e)) (list_all fine (entered key above d.0 e)) s in
           let own = held_own key above d.0 e (up key above fine d) in
           let here : held key (key e) (entered key above d.0 e) ≡ held key (key e) d.0 = own ∙ same (held key (key e) d.0) (held_passes key fine (key e) (entered key above d.0 e) _ p.1 own) in
           same_rows key (entered key above d.0 e) d.0 p.0 (up key above fine d)

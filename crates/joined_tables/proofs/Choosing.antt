@@ -1,9 +1,10 @@
 -- A choice among the entries of a table, and what it brings to another.
 use Rattle.std.proofs.Common.{◌≡◌, ℕ, ◌≤◌, Bool, true, false, cond, ltb, List, [], ◌∷◌, length, Some, None, filter, Option, sym, refl, ap, ◌∙◌, ⊎_elim, arith}
 use Rattle.std.proofs.lemmas.Bool.{and_parts, and_from, cases_eq, cond-false}
+use Rattle.std.specs.List.{list_all}
 use Rattle.state_vector.specs.Tables.{all_above, ascends, held}
 use Rattle.state_vector.proofs.Keys.{none_above, same_rows, skip, stop}
-use Rattle.joined_tables.specs.Joined.{all_pass, none, gather, HeldOff, ChoicesBringAll}
+use Rattle.joined_tables.specs.Joined.{none, gather, HeldOff, ChoicesBringAll}
 use Rattle.joined_tables.proofs.Both.{both}
 use Rattle.joined_tables.proofs.Gathering.{up, pass, gather_row, held_row, held_joined, by_look_ups}
 
@@ -51,17 +52,17 @@ module _ {E : Type 0} (key : E → ℕ) (choice : E → Bool) where
       one true h = omega arith
       one false h = omega arith
 
-  pub pass_kept : (fine : E → Bool) (xs : List E) → all_pass fine xs ≡ true → all_pass fine (filter choice xs) ≡ true
+  pub pass_kept : (fine : E → Bool) (xs : List E) → list_all fine xs ≡ true → list_all fine (filter choice xs) ≡ true
   pass_kept fine [] a = refl
-  pass_kept fine (x ∷ xs) a = let p = and_parts (fine x) (all_pass fine xs) a in one (choice x) p.0 (pass_kept fine xs p.1)
+  pass_kept fine (x ∷ xs) a = let p = and_parts (fine x) (list_all fine xs) a in one (choice x) p.0 (pass_kept fine xs p.1)
     where
-      one : (b : Bool) → fine x ≡ true → all_pass fine (filter choice xs) ≡ true → all_pass fine (cond b (x ∷ filter choice xs) (filter choice xs)) ≡ true
+      one : (b : Bool) → fine x ≡ true → list_all fine (filter choice xs) ≡ true → list_all fine (cond b (x ∷ filter choice xs) (filter choice xs)) ≡ true
       one true h k = and_from _ _ h k
       one false h k = k
 
 module _ {E : Type 0} (key : E → ℕ) (above : E → E → Bool) (fine : E → Bool) where
   -- entries that ascend and pass are the table that they make
-  pub gathers_itself : (xs : List E) → ascends key xs ≡ true → all_pass fine xs ≡ true → (gather key above fine (none key above fine) xs).0 ≡ xs
+  pub gathers_itself : (xs : List E) → ascends key xs ≡ true → list_all fine xs ≡ true → (gather key above fine (none key above fine) xs).0 ≡ xs
   gathers_itself xs a f =
       let is = gather_row key above fine (none key above fine) xs f in
       same_rows key _ xs (up key above fine (gather key above fine (none key above fine) xs)) a (λ c. ap (held key c) is ∙ held_row key above fine c [] xs refl a)

@@ -3,10 +3,11 @@ use Rattle.std.proofs.Common.{◌≡◌, ℕ, Bool, true, false, cond, T, eqb, l
 use mathlib.Core.HLevel.{Σ_prop_path}
 use lib.Dec.{T_prop}
 use Rattle.std.proofs.lemmas.Bool.{true≢false, and_parts, and_from, cases_eq}
+use Rattle.std.specs.List.{list_all}
 use Rattle.state_vector.specs.Tables.{Order, all_above, ascends, entered, held, row}
 use Rattle.state_vector.proofs.Entering.{ascends_entered, held_other, held_own}
 use Rattle.state_vector.proofs.Keys.{held_key, none_above, same_rows, skip, stop}
-use Rattle.joined_tables.specs.Joined.{passing, all_pass, sound, Sound, none, enter, gather, joined, Decided, JoinsAreLawful}
+use Rattle.joined_tables.specs.Joined.{passing, sound, Sound, none, enter, gather, joined, Decided, JoinsAreLawful}
 use Rattle.joined_tables.proofs.Both.{both, raised_is, At, same_twice, either_way, of_three}
 
 pub holds : (b : Bool) → T b → b ≡ true
@@ -23,16 +24,16 @@ module _ {E : Type 0} (key : E → ℕ) (above : E → E → Bool) (fine : E →
   same_table x y p = Σ_prop_path (λ xs. T_prop (sound key fine xs)) p
 
   pub up : (d : Sound key fine) → ascends key d.0 ≡ true
-  up d = (and_parts (ascends key d.0) (all_pass fine d.0) (holds _ d.1)).0
+  up d = (and_parts (ascends key d.0) (list_all fine d.0) (holds _ d.1)).0
 
-  pub pass : (d : Sound key fine) → all_pass fine d.0 ≡ true
-  pass d = (and_parts (ascends key d.0) (all_pass fine d.0) (holds _ d.1)).1
+  pub pass : (d : Sound key fine) → list_all fine d.0 ≡ true
+  pass d = (and_parts (ascends key d.0) (list_all fine d.0) (holds _ d.1)).1
 
-  pub pass_entered : (xs : List E) (e : E) → all_pass fine xs ≡ true → fine e ≡ true → all_pass fine (entered key above xs e) ≡ true
+  pub pass_entered : (xs : List E) (e : E) → list_all fine xs ≡ true → fine e ≡ true → list_all fine (entered key above xs e) ≡ true
   pass_entered [] e a f = and_from _ _ f refl
   pass_entered (x ∷ xs) e a f =
-      let p = and_parts (fine x) (all_pass fine xs) a in
-      let P : List E → Type 0 = λ l. all_pass fine l ≡ true in
+      let p = and_parts (fine x) (list_all fine xs) a in
+      let P : List E → Type 0 = λ l. list_all fine l ≡ true in
       by_cond (ltb (key x) (key e)) _ _ P (and_from _ _ p.0 (pass_entered xs e p.1 f))
       (by_cond (eqb (key x) (key e)) _ _ P (and_from _ _ (by_cond (above e x) e x (λ z. fine z ≡ true) f p.0) p.1) (and_from _ _ f a))
     where
@@ -46,10 +47,10 @@ module _ {E : Type 0} (key : E → ℕ) (above : E → E → Bool) (fine : E →
       let xs = entered key above d.0 e in
       passing_at (λ (t : Sound key fine). t.0) (sound key fine xs) (λ t. (xs, t)) d xs (λ t. refl) (and_from _ _ (ascends_entered key above d.0 e (up d)) (pass_entered d.0 e (pass d) f))
 
-  pub gather_row : (d : Sound key fine) (es : List E) → all_pass fine es ≡ true → (gather key above fine d es).0 ≡ row key above d.0 es
+  pub gather_row : (d : Sound key fine) (es : List E) → list_all fine es ≡ true → (gather key above fine d es).0 ≡ row key above d.0 es
   gather_row d [] a = refl
   gather_row d (e ∷ es) a =
-      let p = and_parts (fine e) (all_pass fine es) a in
+      let p = and_parts (fine e) (list_all fine es) a in
       gather_row (enter key above fine d e) es p.1 ∙ ap (λ xs. row key above xs es) (enter_fine d e p.0)
 
   -- what is held after all entries of one table came to another

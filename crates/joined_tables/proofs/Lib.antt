@@ -10,3 +10,4 @@ pub mod Steps
 pub mod Vectors
 pub mod Lengths
 pub mod TableLaws
+pub mod TableHosts

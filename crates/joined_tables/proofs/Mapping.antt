@@ -1,27 +1,23 @@
 -- Tables seen as tables of other entries with the same keys.
-use Rattle.std.proofs.Common.{◌≡◌, ℕ, ◌<◌, Bool, true, false, cond, ◌&&◌, eqb, ltb, List, [], ◌∷◌, map, Some, None, Option, sym, refl, ap, ◌∙◌, subst, arith}
+use Rattle.std.proofs.Common.{◌≡◌, ℕ, ◌<◌, Bool, true, false, cond, ◌&&◌, eqb, ltb, List, [], ◌∷◌, map, Some, sym, refl, ap, ◌∙◌, subst, arith}
 use Rattle.std.proofs.lemmas.Bool.{and_parts, and_from, lt-ltb}
+use Rattle.std.specs.List.{list_all}
+use Rattle.std.specs.Option.{option_map}
 use Rattle.state_vector.specs.Tables.{all_above, all_below, ascends, better, entered, held}
-use Rattle.joined_tables.specs.Joined.{all_pass}
-
--- what is held, seen so
-abbrev pub seen : {E F : Type 0} → (E → F) → Option E → Option F
-seen f None = None
-seen f (Some x) = Some (f x)
 
 -- what is held passes where all do
-pub held_passes : {E : Type 0} (key : E → ℕ) (fine : E → Bool) (c : ℕ) (xs : List E) (x : E) → all_pass fine xs ≡ true → held key c xs ≡ Some x → fine x ≡ true
+pub held_passes : {E : Type 0} (key : E → ℕ) (fine : E → Bool) (c : ℕ) (xs : List E) (x : E) → list_all fine xs ≡ true → held key c xs ≡ Some x → fine x ≡ true
 held_passes key fine c [] x f h = let z : ◌≡◌ {A = ℕ} 0 1 = cc in absurd (omega arith)
-held_passes {E} key fine c (y ∷ xs) x f h = let p = and_parts (fine y) (all_pass fine xs) f in one (eqb (key y) c) p.0 (λ r. held_passes key fine c xs x p.1 r) h
+held_passes {E} key fine c (y ∷ xs) x f h = let p = and_parts (fine y) (list_all fine xs) f in one (eqb (key y) c) p.0 (λ r. held_passes key fine c xs x p.1 r) h
   where
     one : (b : Bool) → fine y ≡ true → (held key c xs ≡ Some x → fine x ≡ true) → cond b (Some y) (held key c xs) ≡ Some x → fine x ≡ true
     one true p rest h = let same : y ≡ x = cc in subst (λ e. fine e ≡ true) same p
     one false p rest h = rest h
 
 -- a bound on what each entry that passes is seen as
-pub below_seen : {E F : Type 0} (fine : E → Bool) (f : E → F) (g : F → ℕ) (n : ℕ) → ((x : E) → fine x ≡ true → g (f x) < n) → (xs : List E) → all_pass fine xs ≡ true → all_below g n (map f xs) ≡ true
+pub below_seen : {E F : Type 0} (fine : E → Bool) (f : E → F) (g : F → ℕ) (n : ℕ) → ((x : E) → fine x ≡ true → g (f x) < n) → (xs : List E) → list_all fine xs ≡ true → all_below g n (map f xs) ≡ true
 below_seen fine f g n low [] h = refl
-below_seen fine f g n low (x ∷ xs) h = let p = and_parts (fine x) (all_pass fine xs) h in and_from _ _ (lt-ltb (g (f x)) n (low x p.0)) (below_seen fine f g n low xs p.1)
+below_seen fine f g n low (x ∷ xs) h = let p = and_parts (fine x) (list_all fine xs) h in and_from _ _ (lt-ltb (g (f x)) n (low x p.0)) (below_seen fine f g n low xs p.1)
 
 -- the keys are the same
 module _ {E F : Type 0} (key : E → ℕ) (other : F → ℕ) (f : E → F) (same : (x : E) → other (f x) ≡ key x) where
@@ -36,11 +32,11 @@ module _ {E F : Type 0} (key : E → ℕ) (other : F → ℕ) (f : E → F) (sam
       ∙ ap (λ b. b && ascends other (map f xs)) (above_seen (key x) xs)
       ∙ ap (λ b. all_above key (key x) xs && b) (ascends_seen xs)
 
-  pub held_seen : (c : ℕ) (xs : List E) → held other c (map f xs) ≡ seen f (held key c xs)
+  pub held_seen : (c : ℕ) (xs : List E) → held other c (map f xs) ≡ option_map f (held key c xs)
   held_seen c [] = refl
   held_seen c (x ∷ xs) = ap (λ k. cond (eqb k c) (Some (f x)) (held other c (map f xs))) (same x) ∙ one (eqb (key x) c) (held_seen c xs)
     where
-      one : (b : Bool) → held other c (map f xs) ≡ seen f (held key c xs) → cond b (Some (f x)) (held other c (map f xs)) ≡ seen f (cond b (Some x) (held key c xs))
+      one : (b : Bool) → held other c (map f xs) ≡ option_map f (held key c xs) → cond b (Some (f x)) (held other c (map f xs)) ≡ option_map f (cond b (Some x) (held key c xs))
       one true rest = refl
       one false rest = rest
 

@@ -1,11 +1,14 @@
 -- The laws of kinds of tables, and what taking an update comes to.
-use Rattle.std.proofs.Common.{◌≡◌, ℕ, ◌^◌, ◌<◌, ◌≤◌, true, List, [], ◌∷◌, map, length, is_ok, Some, None, Ok, Err, Option, Result, sym, refl, ap, ◌∙◌, subst, append-nil, arith}
+use Rattle.std.proofs.Common.{◌≡◌, ℕ, ◌^◌, ◌<◌, ◌≤◌, true, List, [], ◌∷◌, length, is_ok, Some, None, Ok, Err, Option, Result, sym, refl, ap, ◌∙◌, subst, append-nil, arith}
 use lib.ListN.{length-map}
+use Rattle.std.proofs.lemmas.List.{map-id}
 use Rattle.std.proofs.lemmas.Bool.{true≢false, and_parts, le-leb, lt-leb, cond-true, cond-false}
+use Rattle.std.specs.List.{list_all, AllByRecursion}
+use Rattle.std.specs.Option.{option_map}
 use Rattle.encoding.specs.declared.fault.WireFault.{WireFault}
+use Rattle.encoding.specs.Spelling.{Exactly}
 use Rattle.encoding.specs.Writing.{counted_out}
-use Rattle.encoding.proofs.Counted.{Back, Each, counted_back}
-use Rattle.encoding.proofs.Backs.{fields_read_back}
+use Rattle.encoding.proofs.Counted.{Back, counted_back}
 use Rattle.state_vector.specs.declared.vector.VectorEntry.{VectorEntry}
 use Rattle.state_vector.specs.Tables.{held}
 use Rattle.state_vector.specs.Vector.{clock_in, clock_of}
@@ -14,34 +17,38 @@ use Rattle.state_vector.proofs.Keys.{held_key}
 use Rattle.document.specs.declared.fault.DocumentFault.TheVariants.{TooLarge}
 use Rattle.document.specs.Kind.{Kind, Brings, Lawful}
 use Rattle.document.specs.Taking.{answer_to, after, accepts, taken}
-use Rattle.joined_tables.specs.Joined.{Covers, all_pass, none, gather, gathered}
+use Rattle.joined_tables.specs.Joined.{Covers, none, gather, gathered}
 use Rattle.joined_tables.specs.TableKind.{Rows, Table, rows_in, table_of, news_for, table_kind, clock_held, Fair}
 use Rattle.joined_tables.specs.Whole.{wholly}
 use Rattle.joined_tables.proofs.Arriving.{gather_joins}
 use Rattle.joined_tables.proofs.Choosing.{choices_bring, few_kept, pass_kept}
 use Rattle.joined_tables.proofs.Gathering.{joins_lawful, up, pass}
-use Rattle.joined_tables.proofs.Mapping.{seen, held_passes, below_seen, ascends_seen, held_seen}
+use Rattle.joined_tables.proofs.Mapping.{held_passes, below_seen, ascends_seen, held_seen}
+use Rattle.joined_tables.proofs.Wholes.{whole_is}
 
 module _ {E : Type 0} (rows : Rows E) (fair : Fair rows) where
   abbrev k : Kind
   k = table_kind rows
 
-  all_back : (xs : List E) → all_pass rows.fine xs ≡ true → Each (Back rows.reading rows.writing (λ x. x)) xs
+  all_back : (xs : List E) → list_all rows.fine xs ≡ true → AllByRecursion (Back rows.reading rows.writing (λ x. x)) xs
   all_back [] h = tt
-  all_back (x ∷ xs) h = let p = and_parts (rows.fine x) (all_pass rows.fine xs) h in (λ rest. fair.reads_back x rest p.0, all_back xs p.1)
-
-  map_same : (xs : List E) → map (λ x. x) xs ≡ xs
-  map_same [] = refl
-  map_same (x ∷ xs) = ap (λ l. x ∷ l) (map_same xs)
+  all_back (x ∷ xs) h = let p = and_parts (rows.fine x) (list_all rows.fine xs) h in (λ rest. fair.reads_back x rest p.0, all_back xs p.1)
 
   -- entries that may be held read back
-  pub rows_back : (xs : List E) → length xs ≤ 64 → all_pass rows.fine xs ≡ true → wholly (rows_in rows (counted_out rows.writing xs)) ≡ Ok xs
+  pub rows_back : (xs : List E) → length xs ≤ 64 → list_all rows.fine xs ≡ true → wholly (rows_in rows (counted_out rows.writing xs)) ≡ Ok xs
   rows_back xs few h =
       ap (λ l. wholly (rows_in rows l)) (sym (append-nil (counted_out rows.writing xs)))
-      ∙ ap wholly (counted_back rows.reading rows.writing (λ x. x) 32 xs [] fields_read_back.counts_of_32 (cond-true _ _ _ (le-leb (length xs) 64 few)) (all_back xs h))
-      ∙ ap Ok (map_same xs)
+      ∙ ap wholly (counted_back rows.reading rows.writing (λ x. x) 32 xs [] (omega arith) (cond-true _ _ _ (le-leb (length xs) 64 few)) (all_back xs h))
+      ∙ ap Ok (map-id xs)
 
-  clock_seen : (o : Option E) → clock_in (seen rows.told o) ≡ clock_held rows o
+  -- and they spell what they read back as
+  pub rows_spelt : {Spelt : List E → List ℕ → Type 0} → Exactly (rows_in rows) Spelt → (xs : List E) → length xs ≤ 64 → list_all rows.fine xs ≡ true → Spelt xs (counted_out rows.writing xs)
+  rows_spelt {Spelt} exact xs few h =
+      let bs = counted_out rows.writing xs in
+      let t = exact.taken_is_spelt bs xs [] (whole_is (rows_in rows bs) xs (rows_back xs few h)) in
+      subst (Spelt xs) (sym (append-nil t.0) ∙ sym t.1) t.2
+
+  clock_seen : (o : Option E) → clock_in (option_map rows.told o) ≡ clock_held rows o
   clock_seen None = refl
   clock_seen (Some x) = refl
 

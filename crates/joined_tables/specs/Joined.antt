@@ -1,6 +1,5 @@
 -- Tables as documents: two join into the table that has of each client the entry that stands highest.
 --   passing    a value for which a test has to pass, or else another
---   all_pass    each entry passes a test
 --   sound      a table that ascends and whose entries pass
 --   Sound      the tables that are sound
 --   admit      a table where it is sound, or else another
@@ -15,6 +14,7 @@
 --   Covers     what a choice among the entries leaves out brings nothing new
 --   ChoicesBringAll  joining what was chosen is joining all
 use Rattle.std.specs.Prelude.{◌≡◌, ℕ, Bool, true, false, ◌&&◌, T, List, [], ◌∷◌, Some, None, Ok, Err, filter, Option, Result}
+use Rattle.std.specs.List.{list_all}
 use Rattle.encoding.specs.declared.fault.WireFault.{WireFault}
 use Rattle.state_vector.specs.Tables.{ascends, entered, held}
 
@@ -23,14 +23,9 @@ abbrev pub passing : {A : Type 0} (test : Bool) → (T test → A) → A → A
 passing true yes-so other = yes-so tt
 passing false yes-so other = other
 
--- each entry passes
-abbrev pub all_pass : {E : Type 0} → (E → Bool) → List E → Bool
-all_pass fine [] = true
-all_pass fine (x ∷ xs) = fine x && all_pass fine xs
-
 -- the entries ascend, and each passes
 abbrev pub sound : {E : Type 0} → (E → ℕ) → (E → Bool) → List E → Bool
-sound key fine xs = ascends key xs && all_pass fine xs
+sound key fine xs = ascends key xs && list_all fine xs
 
 -- the tables that are sound
 abbrev pub Sound : {E : Type 0} → (E → ℕ) → (E → Bool) → Type 0

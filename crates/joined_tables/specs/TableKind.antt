@@ -6,7 +6,8 @@
 --   news_for     the entries of an update for a vector
 --   table_kind   the kind
 --   Fair        what the entries owe for the laws to hold
-use Rattle.std.specs.Prelude.{◌≡◌, ℕ, ◌^◌, ◌<◌, ◌≤◌, Bool, true, false, List, ◌++◌, map, length, Some, None, Ok, Err, filter, Option, Result}
+use Rattle.std.specs.Prelude.{◌≡◌, ℕ, ◌^◌, ◌<◌, ◌≤◌, Bool, true, false, List, ◌++◌, map, length, Ok, Err, filter, Option, Result}
+use Rattle.std.specs.Option.{option_map}
 use Rattle.encoding.specs.declared.fault.WireFault.{WireFault}
 use Rattle.encoding.specs.Entries.{entries}
 use Rattle.encoding.specs.Fields.{count_in}
@@ -72,8 +73,7 @@ module _ {E : Type 0} (rows : Rows E) where
 
   -- the clock that a vector tells of what is held
   abbrev pub clock_held : Option E → Option ℕ
-  clock_held None = None
-  clock_held (Some x) = Some (rows.told x).clock
+  clock_held o = option_map (λ x. (rows.told x).clock) o
 
   -- what the entries owe for the laws to hold
   pub record Fair : Type 0 where

@@ -5,15 +5,13 @@ ghost use Rattle.joined_tables.specs.Joined.{Decided, JoinsAreLawful, ChoicesBri
 use state_vector::standing::Standing;
 
 // Where entries of one client that tie are equal, joining is associative, commutative and idempotent, and the empty table is neutral.
-pub fn joins_are_lawful<E: Standing>() -> u8
+#[tactic(auto, using(crate::proofs::Gathering::joins_lawful))]
+pub fn joins_are_lawful<E: Standing>()
     ensures { Decided E.Keyed.key E.Standing.above → (fine : E → Bool) → JoinsAreLawful E.Keyed.key E.Standing.above fine }
-{
-    0
-}
+{}
 
 // Joining what was chosen of a table is joining all of it, where the rest brings nothing new.
-pub fn choices_bring_all<E: Standing>() -> u8
+#[tactic(auto, using(crate::proofs::Choosing::choices_bring))]
+pub fn choices_bring_all<E: Standing>()
     ensures { (fine : E → Bool) → ChoicesBringAll E.Keyed.key E.Standing.above fine }
-{
-    0
-}
+{}

@@ -1,17 +1,17 @@
 -- Messages that were read and are written again.
-use Rattle.std.proofs.Common.{◌≡◌, ℕ, zero, suc, ◌+◌, ◌/◌, ◌^◌, ◌<◌, ◌≤◌, cond, eqb, ltb, List, [], ◌∷◌, ◌++◌, length, get_or, Some, None, Ok, Err, Option, sym, refl, ap, ◌∙◌, subst, ⊎_elim, arith, length-append, lt-ltb, eq-eqb, ne_eqb, le-leb}
-use Rattle.std.proofs.lemmas.Bool.{cond-true, cond-false, cond_both}
-use Rattle.std.proofs.str.Laws.{order}
+use Rattle.std.proofs.Common.{◌≡◌, ℕ, zero, suc, ◌+◌, ◌/◌, ◌^◌, ◌<◌, ◌≤◌, cond, eqb, List, [], ◌∷◌, ◌++◌, length, get_or, Some, None, Ok, Err, Option, sym, refl, ap, ◌∙◌, subst, ⊎_elim, arith, length-append, lt-ltb, eq-eqb, ne_eqb, le-leb}
+use Rattle.std.proofs.lemmas.Bool.{cond-true, cond-false, cases_lt}
+use Rattle.std.proofs.lemmas.List.Elements.{All-nil, All-cons, All-head, All-tail}
+use Rattle.std.specs.List.{All}
 use Rattle.encoding.specs.Fields.{presence_text}
 use Rattle.encoding.specs.Reading.{Reading}
 use Rattle.encoding.specs.Spelling.{BufferIs, RowIs}
 use Rattle.encoding.specs.Utf8.{Text}
 use Rattle.encoding.specs.Writing.{shortest, packed, Row, buffer_out, row_out}
-use Rattle.encoding.proofs.Exacts.{never}
 use Rattle.encoding.proofs.Shortest.{shortest_one, shortest_more, some_shortest, shortest_is_shortest}
 use Rattle.encoding.proofs.Utf8s.{text_decides}
 use Rattle.state_vector.specs.declared.vector.VectorEntry.{VectorEntry}
-use Rattle.state_vector.specs.Tables.{always, better, entered, latest_or, row}
+use Rattle.state_vector.specs.Tables.{always, entered, latest_or, row}
 use Rattle.state_vector.specs.Vector.{client_of, vector_entries, tabled, tabled_after, vector, clock_in}
 use Rattle.state_vector.specs.VectorOut.{vector_out}
 use Rattle.state_vector.proofs.Rows.{length_row, updates_keep}
@@ -21,12 +21,13 @@ use Rattle.message.specs.Again.{Absent, Apart, by_client, Again, ReadAndWrittenA
 use Rattle.message.specs.Message.{Said, step1, step2, update, awareness, denied, granted, query, custom}
 use Rattle.message.specs.Messages.{whole, next}
 use Rattle.message.specs.Owned.{state_text}
-use Rattle.message.specs.Presence.{State, null, live, Entry, presence}
+use Rattle.message.specs.Presence.{Entry, presence}
 use Rattle.message.specs.ReadBack.{OwnTag}
 use Rattle.message.specs.Spelling.{Tagged, MessageIs, step1_is, step2_is, update_is, awareness_is, denied_is, granted_is, query_is, custom_is, Shows, PresenceEntryIs}
-use Rattle.message.specs.Writing.{Told, Readable, AllReadable, Sound, led, presence_entry_out, presence_out, message_out}
+use Rattle.message.specs.Writing.{Told, Readable, Sound, led, presence_entry_out, presence_out, message_out}
 use Rattle.message.proofs.Contents.{messages_are_as_spelt}
 use Rattle.message.proofs.ReadsBack.{reads_back}
+use Rattle.message.proofs.Sound.{All-entered}
 
 -- a smaller number is no longer
 grows_by : (k m n : ℕ) → n ≤ k → m ≤ n → length (shortest m) ≤ length (shortest n)
@@ -34,7 +35,7 @@ grows_by zero m n h l = let e : m ≡ n = omega arith in omega (arith, ap (λ j.
 grows_by (suc k) m n h l =
     ⊎_elim (λ b. omega (arith, ap length (shortest_one m b), some_shortest n))
     (λ g. omega (arith, ap length (shortest_more m g), ap length (shortest_more n (omega arith)), grows_by k (m / 128) (n / 128) (omega arith) (omega arith)))
-    (order m 128)
+    (cases_lt m 128)
 
 grows : (m n : ℕ) → m ≤ n → length (shortest m) ≤ length (shortest n)
 grows m n l = grows_by n m n (omega arith) l
@@ -65,16 +66,16 @@ vector_by : (part : List ℕ) (es : List VectorEntry) (v : Reading (List VectorE
 vector_by part es (Ok p) e h =
     let i : tabled p.0 ≡ es = cc in
     omega (arith, vectors_shrink.no_longer part p.1 p.0 e, ap (λ l. length (vector_out l)) i)
-vector_by part es (Err f) e h = absurd (never h)
+vector_by part es (Err f) e h = cc
 
 vector_short : (part : List ℕ) (es : List VectorEntry) → vector part ≡ Ok es → length (vector_out es) ≤ length part
 vector_short part es e = vector_by part es (vector_entries part) refl e
 
 -- ---- a presence update
 -- the text of a state is what shows it
-text_of : (bs : List ℕ) (s : State) → Shows bs s → state_text s ≡ bs
-text_of bs null h = sym h
-text_of bs (live shown) h = sym h.0
+text_of : (bs : List ℕ) (s : Option (List ℕ)) → Shows bs s → state_text s ≡ bs
+text_of bs None h = sym h
+text_of bs (Some shown) h = sym h.0
 
 entry_short : (e : Entry) (bs : List ℕ) → PresenceEntryIs e bs → length (presence_entry_out e) ≤ length bs
 entry_short e bs (a, b, c, text, i, h, k, t, s) =
@@ -166,7 +167,7 @@ vector_sound part es (Ok p) e h =
     let i : tabled p.0 ≡ es = cc in
     let k = table_known part p.1 p.0 e in
     subst (λ l. Sound (Told.step1 l)) i (k.0, (updates_keep client_of).ascending p.0, k.1, k.2)
-vector_sound part es (Err f) e h = absurd (never h)
+vector_sound part es (Err f) e h = cc
 
 -- an entry that is spelt can be read again
 text_passes : (bs : List ℕ) → Text bs → length bs ≤ 256 → presence_text bs ≡ Ok tt
@@ -175,27 +176,20 @@ text_passes bs t l = rw ((text_decides bs).1 t, le-leb (length bs) 256 l) refl
 entry_readable : (e : Entry) (bs : List ℕ) → PresenceEntryIs e bs → Readable e
 entry_readable e bs (a, b, c, text, i, h, k, t, s) = (h.1, omega (arith, k.2), ap presence_text (text_of text e.state s) ∙ text_passes text t.0.1 t.1)
 
-all_readable : (es : List Entry) (bs : List ℕ) → RowIs PresenceEntryIs es bs → AllReadable es
-all_readable [] bs h = tt
-all_readable (e ∷ es) bs (a, b, i, h, r) = (entry_readable e a h, all_readable es b r)
+all_readable : (es : List Entry) (bs : List ℕ) → RowIs PresenceEntryIs es bs → All Readable es
+all_readable [] bs h = All-nil Readable
+all_readable (e ∷ es) bs (a, b, i, h, r) = All-cons Readable e es (entry_readable e a h) (all_readable es b r)
 
 -- and entries that come in leave it so
-readable_came : (xs : List Entry) (e : Entry) → Readable e → AllReadable xs → AllReadable (entered client_of_lem always xs e)
-readable_came [] e r h = (r, tt)
-readable_came (x ∷ xs) e r h =
-    cond_both (ltb x.client e.client) (x ∷ entered client_of_lem always xs e) (cond (eqb x.client e.client) (better always e x ∷ xs) (e ∷ x ∷ xs)) AllReadable
-    (λ _. (h.0, readable_came xs e r h.1))
-    (λ _. cond_both (eqb x.client e.client) (better always e x ∷ xs) (e ∷ x ∷ xs) AllReadable (λ _. (r, h.1)) (λ _. (r, h)))
-
-readable_row : (xs es : List Entry) → AllReadable xs → AllReadable es → AllReadable (row client_of_lem always xs es)
+readable_row : (xs es : List Entry) → All Readable xs → All Readable es → All Readable (row client_of_lem always xs es)
 readable_row xs [] h r = h
-readable_row xs (e ∷ es) h r = readable_row (entered client_of_lem always xs e) es (readable_came xs e r.0 h) r.1
+readable_row xs (e ∷ es) h r = readable_row (entered client_of_lem always xs e) es (All-entered client_of_lem Readable xs e (All-head Readable e es r) h) (All-tail Readable e es r)
 
 presence_sound : (part rest : List ℕ) (es : List Entry) → presence part ≡ Ok (es, rest) → Sound (Told.awareness (by_client es))
 presence_sound part rest es e =
     let v = messages_are_as_spelt.presences.taken_is_spelt part es rest e in
     let w = v.2 in
-    (omega (arith, w.3.1, length_row client_of_lem always [] es), (updates_keep client_of_lem).ascending es, readable_row [] es tt (all_readable es w.1 w.4))
+    (omega (arith, w.3.1, length_row client_of_lem always [] es), (updates_keep client_of_lem).ascending es, readable_row [] es (All-nil Readable) (all_readable es w.1 w.4))
 
 -- the parts of a message that was read can be read again
 sound : (m : Said) (t : Told) → Again m t → Sound t

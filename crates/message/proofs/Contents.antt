@@ -1,5 +1,5 @@
 -- What buffers hold, as it is spelt, beside what is read of it.
-use Rattle.std.proofs.Common.{◌≡◌, ℕ, ◌-◌, ◌^◌, ◌<◌, Bool, true, false, cond, List, [], ◌∷◌, ◌++◌, length, Ok, Err, codes, Result, sym, refl, ap, ◌∙◌, subst, arith, length-append}
+use Rattle.std.proofs.Common.{◌≡◌, ℕ, ◌-◌, ◌^◌, ◌<◌, Bool, true, false, cond, List, [], ◌∷◌, ◌++◌, length, Some, None, Ok, Err, codes, Option, Result, sym, refl, ap, ◌∙◌, subst, arith, length-append}
 use Rattle.std.specs.Str.{bytes_eq}
 use Rattle.std.proofs.lemmas.Slice.Eq.{bytes_eq-Decides}
 use Rattle.encoding.specs.declared.fault.WireFault.{WireFault}
@@ -8,32 +8,31 @@ use Rattle.encoding.specs.Fields.{client_id_in, presence_text_in}
 use Rattle.encoding.specs.Reading.{Reading, thence, named}
 use Rattle.encoding.specs.Spelling.{Exactly, NumberIs, ClientIs, PresenceTextIs}
 use Rattle.encoding.specs.VarUint.{var_uint}
-use Rattle.encoding.proofs.Exacts.{Then, never, exact_thence, exact_named, exact_as, exact_number, exact_client_id, exact_presence_text, exact_counted}
+use Rattle.encoding.proofs.Exacts.{Then, exact_thence, exact_named, exact_as, exact_number, exact_client_id, exact_presence_text, exact_counted}
 use Rattle.state_vector.specs.Spelling.{VectorIs}
 use Rattle.state_vector.specs.Vector.{vector_entries}
 use Rattle.state_vector.proofs.Spelt.{exact_vector}
 use Rattle.message.specs.Message.{Said, step1, step2, update, awareness, denied, granted, query, custom, message, contents}
 use Rattle.message.specs.Messages.{whole, refused, cut, next, found, judged}
-use Rattle.message.specs.Presence.{State, null, live, Entry, state_of, presence_entry, presence}
+use Rattle.message.specs.Presence.{Entry, state_of, presence_entry, presence}
 use Rattle.message.specs.Spelling.{Tagged, MessageIs, step1_is, step2_is, update_is, awareness_is, denied_is, granted_is, query_is, custom_is, Shows, PresenceEntryIs, PresenceIs, Holds, MessagesAreAsSpelt}
-use Rattle.message.proofs.Nexts.{next_of}
 use Rattle.message.proofs.Spelt.{exact_message}
 
 -- what a text shows is what its state says
 pub shown : (bs : List ℕ) → Shows bs (state_of bs)
 shown bs = by (bytes_eq bs (codes "null")) refl
   where
-    by : (b : Bool) → bytes_eq bs (codes "null") ≡ b → Shows bs (cond b null (live bs))
+    by : (b : Bool) → bytes_eq bs (codes "null") ≡ b → Shows bs (cond b None (Some bs))
     by true e = (bytes_eq-Decides bs (codes "null")).0 e
-    by false e = (refl, λ i. let z = (bytes_eq-Decides bs (codes "null")).1 i in let y : ◌≡◌ {A = Bool} true false = sym z ∙ e in let k : ◌≡◌ {A = ℕ} 0 1 = cc in omega arith)
+    by false e = (refl, λ i. cc ((bytes_eq-Decides bs (codes "null")).1 i, e))
 
-state_is_lem : (bs : List ℕ) (s : State) → Shows bs s → state_of bs ≡ s
-state_is_lem bs null h = rw ((bytes_eq-Decides bs (codes "null")).1 h) refl
-state_is_lem bs (live shown) h = by (bytes_eq bs (codes "null")) refl
+state_is_lem : (bs : List ℕ) (s : Option (List ℕ)) → Shows bs s → state_of bs ≡ s
+state_is_lem bs None h = rw ((bytes_eq-Decides bs (codes "null")).1 h) refl
+state_is_lem bs (Some shown) h = by (bytes_eq bs (codes "null")) refl
   where
-    by : (b : Bool) → bytes_eq bs (codes "null") ≡ b → cond b null (live bs) ≡ live shown
+    by : (b : Bool) → bytes_eq bs (codes "null") ≡ b → cond b None (Some bs) ≡ Some shown
     by true e = absurd (h.1 ((bytes_eq-Decides bs (codes "null")).0 e))
-    by false e = ap live h.0
+    by false e = ap Some h.0
 
 abbrev made : ℕ → ℕ → List ℕ → Entry
 made id n bs = record { client = id; clock = n; state = state_of bs }
@@ -64,7 +63,7 @@ module _ {X : Type 0} (r : List ℕ → Reading X) (Is : X → List ℕ → Type
 
   read_held : (part : List ℕ) (v : Reading X) → r part ≡ v → verdict v ≡ Ok tt → Held part
   read_held part (Ok p) e j = let a = h.taken_is_spelt part p.0 p.1 e in (p.0, a.0, p.1, a.1, a.2)
-  read_held part (Err f) e j = absurd (never j)
+  read_held part (Err f) e j = cc
 
   pub held : (part : List ℕ) → verdict (r part) ≡ Ok tt → Held part
   held part j = read_held part (r part) refl j
@@ -95,11 +94,11 @@ passes (custom tag part) h = refl
 -- a whole message at the front, by its two readings
 whole_judged : (v : Result (Unit {0}) WireFault) (m n : Said) (r rest : List ℕ) → judged v m r ≡ whole n rest → (v ≡ Ok tt) × (m ≡ n) × (r ≡ rest)
 whole_judged (Ok tt) m n r rest e = (refl, (cc), (cc))
-whole_judged (Err f) m n r rest e = absurd (let z : ◌≡◌ {A = ℕ} 0 1 = cc in omega arith)
+whole_judged (Err f) m n r rest e = cc
 
 stopped : (b : Bool) (f : WireFault) (m : Said) (rest : List ℕ) → cond b cut (refused f) ≡ whole m rest → ⊥
-stopped true f m rest e = let z : ◌≡◌ {A = ℕ} 0 1 = cc in omega arith
-stopped false f m rest e = let z : ◌≡◌ {A = ℕ} 0 1 = cc in omega arith
+stopped true f m rest e = cc
+stopped false f m rest e = cc
 
 pub record Taken (s rest : List ℕ) (m : Said) : Type 0 where
   pub reads : message s ≡ Ok (m, rest)
@@ -112,8 +111,13 @@ taken_by s rest m (Ok p) e h =
 taken_by s rest m (Err f) e h = absurd (stopped _ f m rest h)
 
 pub taken : (s rest : List ℕ) (m : Said) → next s ≡ whole m rest → Taken s rest m
-taken [] rest m h = absurd (let z : ◌≡◌ {A = ℕ} 0 1 = cc in omega arith)
+taken [] rest m h = cc
 taken (b ∷ s) rest m h = taken_by (b ∷ s) rest m (message (b ∷ s)) refl h
+
+-- what stands at the front of bytes that are not empty
+next_of : (s : List ℕ) → 0 < length s → next s ≡ found (message s)
+next_of [] h = absurd (omega arith)
+next_of (b ∷ bs) h = refl
 
 -- a message takes a byte at least
 tagged_some : {n : ℕ} {Body : List ℕ → Type 0} (bs : List ℕ) → Tagged n Body bs → 0 < length bs

@@ -1,15 +1,16 @@
 -- Messages that were written, as they are spelt and so read.
-use Rattle.std.proofs.Common.{◌≡◌, ℕ, suc, ◌+◌, ◌-◌, ◌^◌, ◌<◌, ◌≤◌, Bool, true, false, cond, ltb, leb, List, [], ◌∷◌, ◌++◌, map, length, take, drop, IfOk, Ok, Err, Result, sym, refl, ap, ◌∙◌, subst, append-nil, arith, ltb-true, leb-true}
-use lib.Seq.{take-append_seam}
+use Rattle.std.proofs.Common.{◌≡◌, ℕ, ◌-◌, ◌^◌, ◌<◌, ◌≤◌, Bool, true, false, cond, ltb, leb, List, [], ◌∷◌, ◌++◌, map, length, Ok, Err, Result, sym, refl, ap, ◌∙◌, subst, append-nil, arith, ltb-true, leb-true}
+use Rattle.std.proofs.lemmas.List.{length-map}
+use Rattle.std.proofs.lemmas.List.Elements.{All-head, All-tail}
+use Rattle.std.specs.List.{All}
 use Rattle.encoding.specs.declared.fault.WireFault.{WireFault}
 use Rattle.encoding.specs.declared.fault.WireFault.TheVariants.{UnexpectedValue}
-use Rattle.encoding.specs.declared.write.WriteFault.{WriteFault}
 use Rattle.encoding.specs.declared.write.WriteFault.TheVariants.{Short}
 use Rattle.encoding.specs.Spelling.{NumberIs, BufferIs, CountIs, RowIs}
 use Rattle.encoding.specs.Utf8.{is_text}
 use Rattle.encoding.specs.Writing.{spelt as digits, shortest, packed, Row, asked, buffer_out, row_out}
 use Rattle.encoding.proofs.Backs.{number_is, buffer_is, client_is, count_is}
-use Rattle.encoding.proofs.Exacts.{never, test_passes, both}
+use Rattle.encoding.proofs.Exacts.{test_passes, both}
 use Rattle.encoding.proofs.Shortest.{shortest_one}
 use Rattle.encoding.proofs.Utf8s.{text_decides}
 use Rattle.state_vector.proofs.VectorsOut.{vector_is, vectors_back}
@@ -20,24 +21,24 @@ use Rattle.message.specs.Owned.{state_text}
 use Rattle.message.specs.Presence.{Entry, presence}
 use Rattle.message.specs.ReadBack.{said, as_read, OwnTag, Same, ReadsBack, ExceptionsAreReal}
 use Rattle.message.specs.Spelling.{Tagged, MessageIs, step1_is, step2_is, update_is, awareness_is, denied_is, granted_is, query_is, custom_is, PresenceEntryIs, PresenceIs, Holds}
-use Rattle.message.specs.Writing.{Told, step1, step2, update, awareness, denied, granted, query, custom, Readable, AllReadable, Sound, presence_entry_out, presence_out, led, asks, drafted, message_out, Written}
+use Rattle.message.specs.Writing.{Told, step1, step2, update, awareness, denied, granted, query, custom, Readable, Sound, presence_entry_out, presence_out, led, asks, drafted, message_out}
 use Rattle.message.proofs.Contents.{shown, exact_presence, messages_are_as_spelt}
 
 -- ---- what a row that is written is
 row_some : (verdict : Result (Unit {0}) WireFault) (row : Row) (bs : List ℕ) → asked verdict row ≡ Ok bs → (verdict ≡ Ok tt) × (row ≡ Ok bs)
 row_some (Ok tt) row bs e = (refl, e)
-row_some (Err f) row bs e = absurd (never e)
+row_some (Err f) row bs e = cc
 
 buffer_some : (part bs : List ℕ) → buffer_out part ≡ Ok bs → (length part < 2 ^ 32) × (packed part ≡ bs)
 buffer_some part bs e = by (ltb (length part) (2 ^ 32)) refl e
   where
     by : (b : Bool) → ltb (length part) (2 ^ 32) ≡ b → ◌≡◌ {A = Row} (cond b (Ok (packed part)) (Err Short)) (Ok bs) → (length part < 2 ^ 32) × (packed part ≡ bs)
     by true h e = (ltb-true (length part) (2 ^ 32) h, (cc))
-    by false h e = absurd (never e)
+    by false h e = cc
 
 led_some : (lead bs : List ℕ) (row : Row) → led lead row ≡ Ok bs → (inner : List ℕ) × (row ≡ Ok inner) × (bs ≡ lead ++ inner)
 led_some lead bs (Ok inner) e = (inner, refl, let i : lead ++ inner ≡ bs = cc in sym i)
-led_some lead bs (Err f) e = absurd (never e)
+led_some lead bs (Err f) e = cc
 
 -- bytes that lead a buffer
 led_buffer : (lead part bs : List ℕ) → led lead (buffer_out part) ≡ Ok bs → (BufferIs part (packed part)) × (bs ≡ lead ++ packed part)
@@ -61,16 +62,12 @@ entry_is_lem e (k, n, t) =
     let short : length bs ≤ 256 = leb-true (length bs) 256 p.1 in
     (shortest e.client, shortest e.clock, packed bs, bs, refl, client_is e.client k, number_is (2 ^ 32 - 1) e.clock (omega arith) (omega arith), ((buffer_is bs (omega arith), (text_decides bs).0 p.0), short), shown bs)
 
-row_is : (es : List Entry) → AllReadable es → RowIs PresenceEntryIs (map as_read es) (row_out presence_entry_out es)
+row_is : (es : List Entry) → All Readable es → RowIs PresenceEntryIs (map as_read es) (row_out presence_entry_out es)
 row_is [] h = refl
-row_is (e ∷ es) h = (presence_entry_out e, row_out presence_entry_out es, refl, entry_is_lem e h.0, row_is es h.1)
+row_is (e ∷ es) h = (presence_entry_out e, row_out presence_entry_out es, refl, entry_is_lem e (All-head Readable e es h), row_is es (All-tail Readable e es h))
 
-length_read : (es : List Entry) → length es ≡ length (map as_read es)
-length_read [] = refl
-length_read (e ∷ es) = ap (λ k. suc k) (length_read es)
-
-presence_is : (es : List Entry) → length es ≤ 64 → AllReadable es → PresenceIs (map as_read es) (presence_out es)
-presence_is es l h = (shortest (length es), row_out presence_entry_out es, refl, subst (λ k. CountIs 64 k (shortest (length es))) (length_read es) (count_is 64 (length es) (omega arith) l), row_is es h)
+presence_is : (es : List Entry) → length es ≤ 64 → All Readable es → PresenceIs (map as_read es) (presence_out es)
+presence_is es l h = (shortest (length es), row_out presence_entry_out es, refl, subst (λ k. CountIs 64 k (shortest (length es))) (sym (length-map es as_read)) (count_is 64 (length es) (omega arith) l), row_is es h)
 
 -- ---- each message
 spelt : (t : Told) (bs : List ℕ) → OwnTag t → asks t ≡ Ok tt → drafted t ≡ Ok bs → MessageIs (said t) bs
@@ -111,12 +108,3 @@ reads_back t bs s e =
 pub exceptions_are_real : ExceptionsAreReal
 unfolding message digits shortest
 exceptions_are_real = record { low_tag = (refl, refl); live_null = refl }
-
--- what stands at the front of a buffer that was written reads back
-pub front_reads_back : (t : Told) (row : Row) (old new : List ℕ) (n : ℕ) → message_out t ≡ row → ((bs : List ℕ) → message_out t ≡ Ok bs → ReadsBack t bs) → Written old 0 row (Ok n) new → ReadsBack t (take n new)
-front_reads_back t (Ok bs) old new n e h w = subst (ReadsBack t) (sym (ap (take n) w.1 ∙ ap (λ k. take k (bs ++ drop (0 + length bs) old)) w.0 ∙ take-append_seam bs (drop (0 + length bs) old))) (h bs e)
-front_reads_back t (Err f) old new n e h w = absurd (never (sym w.0))
-
-pub front_made : (t : Told) (old new : List ℕ) (r : Result ℕ WriteFault) → ((bs : List ℕ) → message_out t ≡ Ok bs → ReadsBack t bs) → Written old 0 (message_out t) r new → IfOk r (λ n. ReadsBack t (take n new))
-front_made t old new (Ok n) h w = front_reads_back t (message_out t) old new n refl h w
-front_made t old new (Err f) h w = tt

@@ -1,5 +1,5 @@
 -- Messages that are sent into a sink.
-use Rattle.std.proofs.Common.{◌≡◌, ℕ, ◌^◌, ◌<◌, List, [], ◌∷◌, ◌++◌, map, length, Ok, Err, Result, sym, refl, ap, ◌∙◌, arith, length-append, lt-ltb}
+use Rattle.std.proofs.Common.{◌≡◌, ℕ, ◌^◌, ◌<◌, List, length, Ok, Err, Result, ap, ◌∙◌, arith, lt-ltb}
 use Rattle.encoding.specs.declared.fault.WireFault.{WireFault}
 use Rattle.encoding.specs.declared.sink.BufferTooShort.{BufferTooShort}
 use Rattle.encoding.specs.declared.sink.Counter.{Counter}
@@ -7,8 +7,7 @@ use Rattle.encoding.specs.declared.sink.Filler.{Filler}
 use Rattle.encoding.specs.declared.write.WriteFault.{WriteFault}
 use Rattle.encoding.specs.Sink.{Put}
 use Rattle.encoding.specs.TwoSinks.{room_of_counter, Counts, room_of_filler, Fills, stood}
-use Rattle.encoding.specs.Writing.{shortest, packed, Row, asked, buffer_out, row_out, counted_out, Writes, told, Sent}
-use Rattle.encoding.proofs.Exacts.{never}
+use Rattle.encoding.specs.Writing.{packed, Row, asked, buffer_out, Writes, told, Sent}
 use Rattle.encoding.proofs.Fillings.{runs_count, lent_stood}
 use Rattle.encoding.proofs.Sendings.{sent_then}
 use Rattle.message.specs.Writing.{led, Written}
@@ -18,13 +17,8 @@ module _ {S : Type 0} (room : S → ℕ) (step : S → ℕ → S → Type 0) whe
   pub led_sent : (s m t : S) (lead : List ℕ) (row : Row) (u : Unit {0}) (r : Result (Unit {0}) BufferTooShort) → Put room step s lead (Ok u) m → Writes room step m row (told r) t → Sent room step s (led lead row) r t
   led_sent s m t lead (Ok bs) u (Ok v) p q = sent_then room step s m t lead bs u (Ok v) p q
   led_sent s m t lead (Ok bs) u (Err e) p q = sent_then room step s m t lead bs u (Err e) p q.1
-  led_sent s m t lead (Err f) u (Ok v) p q = absurd (never (sym q.0))
+  led_sent s m t lead (Err f) u (Ok v) p q = cc
   led_sent s m t lead (Err f) u (Err e) p q = tt
-
-  -- there is no room for the bytes that lead
-  pub led_short : (s t : S) (lead : List ℕ) (row : Row) (e : BufferTooShort) → room s < length lead → Sent room step s (led lead row) (Err e) t
-  led_short s t lead (Ok bs) e l = omega (arith, length-append lead bs)
-  led_short s t lead (Err f) e l = tt
 
   -- a buffer that is short enough is its bytes
   pub buffer_goes : (s t : S) (bs : List ℕ) (r : Result (Unit {0}) BufferTooShort) → length bs < 2 ^ 32 → Writes room step s (buffer_out bs) (told r) t → Sent room step s (Ok (packed bs)) r t
@@ -33,18 +27,6 @@ module _ {S : Type 0} (room : S → ℕ) (step : S → ℕ → S → Type 0) whe
       by : (r : Result (Unit {0}) BufferTooShort) → Writes room step s (Ok (packed bs)) (told r) t → Sent room step s (Ok (packed bs)) r t
       by (Ok u) w = w
       by (Err e) w = w.1
-
--- entries under another name
-pub row_map : {X Y : Type 0} (out : Y → List ℕ) (f : X → Y) (xs : List X) → row_out (λ x. out (f x)) xs ≡ row_out out (map f xs)
-row_map out f [] = refl
-row_map out f (x ∷ xs) = ap (λ l. out (f x) ++ l) (row_map out f xs)
-
-pub length_named : {X Y : Type 0} (f : X → Y) (xs : List X) → length xs ≡ length (map f xs)
-length_named f [] = refl
-length_named f (x ∷ xs) = let e = length_named f xs in omega arith
-
-pub counted_map : {X Y : Type 0} (out : Y → List ℕ) (f : X → Y) (xs : List X) → counted_out (λ x. out (f x)) xs ≡ counted_out out (map f xs)
-counted_map out f xs = ap (λ n. shortest n ++ row_out (λ x. out (f x)) xs) (length_named f xs) ∙ ap (λ l. shortest (length (map f xs)) ++ l) (row_map out f xs)
 
 -- ---- a message that was counted and then written
 -- a row that the counter took and the filler then took stands in the buffer, and the count is its length
@@ -57,4 +39,4 @@ counted_written (Err w) c d f g old new at u v p q z i j k = absurd p
 -- with its questions answered
 pub answered_written : (verdict : Result (Unit {0}) WireFault) (row : Row) (old new : List ℕ) (at : ℕ) (r : Result ℕ WriteFault) → Ok tt ≡ verdict → Written old at row r new → Written old at (asked verdict row) r new
 answered_written (Ok u) row old new at r e w = w
-answered_written (Err f) row old new at r e w = absurd (never (sym e))
+answered_written (Err f) row old new at r e w = cc

@@ -1,9 +1,10 @@
 -- Messages as they are spelt, beside messages as they are read.
-use Rattle.std.proofs.Common.{◌≡◌, ℕ, ◌-◌, ◌^◌, ◌<◌, ◌≤◌, Bool, true, false, eqb, ◌⊎◌, List, [], ◌++◌, Ok, sym, refl, ap, ◌∙◌, subst, inl, inr, ⊎_elim, append_assoc, arith, ne_eqb, true-eqb, false-eqb}
+use Rattle.std.proofs.Common.{◌≡◌, ℕ, ◌-◌, ◌^◌, ◌<◌, ◌≤◌, List, [], ◌++◌, Ok, sym, refl, ap, ◌∙◌, subst, ⊎_elim, append_assoc, arith, ne_eqb}
+use Rattle.std.proofs.lemmas.Bool.{cases_eq}
 use Rattle.encoding.specs.Fields.{buffer, text}
 use Rattle.encoding.specs.Reading.{Reading, thence, named}
 use Rattle.encoding.specs.Spelling.{Exactly, NumberIs, BufferIs, TextIs}
-use Rattle.encoding.proofs.Exacts.{ok_is, never, came, named_came, exact_number, exact_buffer, exact_text}
+use Rattle.encoding.proofs.Exacts.{ok_is, came, named_came, exact_number, exact_buffer, exact_text}
 use Rattle.message.specs.Message.{Said, step1, step2, update, awareness, denied, granted, query, custom, byte_wide, kinded, sync, flagged, auth, body, message}
 use Rattle.message.specs.Spelling.{Tagged, MessageIs, step1_is, step2_is, update_is, awareness_is, denied_is, granted_is, query_is, custom_is}
 
@@ -72,13 +73,6 @@ Begun s rest m = Front (MessageIs m) s rest
 begun : (s rest : List ℕ) (m said : Said) (Body : List ℕ → Type 0) → said ≡ m → ((bs : List ℕ) → Body bs → MessageIs said bs) → Front Body s rest → Begun s rest m
 begun s rest m said Body e is (bs, i, b) = (bs, i, subst (λ x. MessageIs x bs) e (is bs b))
 
-which : (n k : ℕ) → (n ≡ k) ⊎ (n ≡ k → ⊥)
-which n k = by (eqb n k) refl
-  where
-    by : (b : Bool) → eqb n k ≡ b → (n ≡ k) ⊎ (n ≡ k → ⊥)
-    by true h = inl (true-eqb n k (sym h))
-    by false h = inr (false-eqb n k (sym h))
-
 sync_taken : (s mid rest : List ℕ) (m : Said) (tag : List ℕ) → s ≡ tag ++ mid → NumberIs (2 ^ 8 - 1) 0 tag → sync mid ≡ Ok (m, rest) → Begun s rest m
 sync_taken s mid rest m tag e h r = by (led kinded mid rest m r)
   where
@@ -90,8 +84,8 @@ sync_taken s mid rest m tag e h r = by (led kinded mid rest m r)
         (λ z. let p = part_of step2 after rest m (subst (λ j. kinded j after ≡ Ok (m, rest)) z q) in begun s rest m (step2 p.0) _ p.2 (λ bs b. step2_is b) (tagged 0 tag mid s rest _ e h (tagged 1 u after mid rest _ i (subst (λ j. NumberIs (2 ^ 8 - 1) j u) z k) p.1)))
         (λ n1. ⊎_elim
         (λ z. let p = part_of update after rest m (subst (λ j. kinded j after ≡ Ok (m, rest)) z q) in begun s rest m (update p.0) _ p.2 (λ bs b. update_is b) (tagged 0 tag mid s rest _ e h (tagged 2 u after mid rest _ i (subst (λ j. NumberIs (2 ^ 8 - 1) j u) z k) p.1)))
-        (λ n2. absurd (never (rw (ne_eqb n 0 n0, ne_eqb n 1 n1, ne_eqb n 2 n2) at q)))
-        (which n 2)) (which n 1)) (which n 0)
+        (λ n2. let e = rw (ne_eqb n 0 n0, ne_eqb n 1 n1, ne_eqb n 2 n2) at q in cc)
+        (cases_eq n 2)) (cases_eq n 1)) (cases_eq n 0)
 
 auth_taken : (s mid rest : List ℕ) (m : Said) (tag : List ℕ) → s ≡ tag ++ mid → NumberIs (2 ^ 8 - 1) 2 tag → auth mid ≡ Ok (m, rest) → Begun s rest m
 auth_taken s mid rest m tag e h r = by (led flagged mid rest m r)
@@ -101,7 +95,7 @@ auth_taken s mid rest m tag e h r = by (led flagged mid rest m r)
         ⊎_elim
         (λ z. let p = reason_of after rest m (subst (λ j. flagged j after ≡ Ok (m, rest)) z q) in begun s rest m (denied p.0) _ p.2 (λ bs b. denied_is b) (tagged 2 tag mid s rest _ e h (tagged 0 u after mid rest _ i (subst (λ j. NumberIs (2 ^ 8 - 1) j u) z k) p.1)))
         (λ n0. let z = ok_is (rw (ne_eqb n 0 n0) at q) in begun s rest m granted _ z.0 (λ bs b. granted_is n (omega arith) b) (tagged 2 tag mid s rest _ e h (u, i ∙ ap (λ l. u ++ l) z.1, k)))
-        (which n 0)
+        (cases_eq n 0)
 
 body_taken : (n : ℕ) (s mid rest : List ℕ) (m : Said) (tag : List ℕ) → s ≡ tag ++ mid → NumberIs (2 ^ 8 - 1) n tag → body n mid ≡ Ok (m, rest) → Begun s rest m
 body_taken n s mid rest m tag e h q =
@@ -114,7 +108,7 @@ body_taken n s mid rest m tag e h q =
     (λ n2. ⊎_elim
     (λ z. let y = ok_is (subst (λ j. body j mid ≡ Ok (m, rest)) z q) in begun s rest m query _ y.0 (λ bs b. query_is b) (tagged 3 tag mid s rest _ e (subst (λ j. NumberIs (2 ^ 8 - 1) j tag) z h) ([], y.1, refl)))
     (λ n3. let four : 4 ≤ n = omega arith in let p = part_of (custom n) mid rest m (sym (custom_body n mid four) ∙ q) in begun s rest m (custom n p.0) _ p.2 (λ bs b. custom_is four b) (tagged n tag mid s rest _ e h p.1))
-    (which n 3)) (which n 2)) (which n 1)) (which n 0)
+    (cases_eq n 3)) (cases_eq n 2)) (cases_eq n 1)) (cases_eq n 0)
 
 pub exact_message : Exactly message MessageIs
 unfolding message

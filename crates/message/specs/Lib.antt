@@ -1,8 +1,8 @@
 pub mod Presence
 pub mod Message
 pub mod Messages
+pub mod Reader
 pub mod Spelling
-pub mod Kept
 pub mod Owned
 pub mod Writing
 pub mod Drafts

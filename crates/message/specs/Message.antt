@@ -1,6 +1,7 @@
 -- Messages, as the sync protocol lays them out.
 --   Said       what a message says, by the bytes of its parts
 --   means      what a borrowed message says
+--   ReadAsMade   a part that was read, and the message that was made of it
 --   byte_wide   a number of 8 bits
 --   kinded     after a kind of sync
 --   sync       after tag 0: a kind, then a buffer
@@ -9,7 +10,8 @@
 --   body       what follows a tag
 --   message    a tag, then its body
 --   contents   whether what a message's buffer has to hold is there
-use Rattle.std.specs.Prelude.{ℕ, ◌-◌, ◌^◌, cond, List, Ok, Err, Result, ◌==◌}
+use Rattle.std.specs.Prelude.{◌≡◌, ℕ, ◌-◌, ◌^◌, cond, List, Ok, Err, Result, ◌==◌}
+use Rattle.std.specs.Borrow.{Bor}
 use Rattle.encoding.specs.declared.fault.WireFault.{WireFault}
 use Rattle.encoding.specs.declared.fault.WireFault.TheVariants.{UnexpectedValue}
 use Rattle.encoding.specs.Entries.{verdict}
@@ -42,6 +44,11 @@ means (AuthDenied reason) = denied reason.now
 means AuthGranted = granted
 means AwarenessQuery = query
 means (Custom tag part) = custom tag part.now
+
+-- a part that was read and the message that was made of it, or the fault of the part
+abbrev pub ReadAsMade : (Bor (List ℕ) → Message → Type 0) → Result (Message × Bor (List ℕ)) WireFault → Reading (List ℕ) → Type 0
+ReadAsMade Made (Ok p) part = (b : Bor (List ℕ)) × Made b p.0 × (part ≡ Ok (b.now, p.1.now))
+ReadAsMade Made (Err f) part = part ≡ Err f
 
 -- a number of 8 bits
 abbrev pub byte_wide : List ℕ → Reading ℕ

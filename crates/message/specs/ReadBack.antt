@@ -5,13 +5,13 @@
 --   Same          what the buffer of a written message holds
 --   ReadsBack    the bytes of a written message read as that message
 --   ExceptionsAreReal   the two exceptions are met by messages
-use Rattle.std.specs.Prelude.{◌≡◌, ℕ, ◌^◌, ◌<◌, ◌≤◌, List, [], ◌∷◌, ◌++◌, map, Ok, codes}
+use Rattle.std.specs.Prelude.{◌≡◌, ℕ, ◌^◌, ◌<◌, ◌≤◌, List, [], ◌∷◌, ◌++◌, map, Some, None, Ok, codes}
 use Rattle.state_vector.specs.Vector.{vector}
 use Rattle.state_vector.specs.VectorOut.{vector_out}
 use Rattle.message.specs.Message.{Said}
 use Rattle.message.specs.Messages.{whole, next}
 use Rattle.message.specs.Owned.{state_text}
-use Rattle.message.specs.Presence.{null, live, Entry, state_of, presence}
+use Rattle.message.specs.Presence.{Entry, state_of, presence}
 use Rattle.message.specs.Writing.{Told, step1, step2, update, awareness, denied, granted, query, custom, presence_out, message_out}
 
 -- the message that the bytes of a written one are, by the bytes of its parts
@@ -25,7 +25,7 @@ said granted = Said.granted
 said query = Said.query
 said (custom tag part) = Said.custom tag part
 
--- an entry as it is read again: a live text that spells null is null, every other state is itself
+-- an entry as it is read again: a text that spells null is none, every other state is itself
 abbrev pub as_read : Entry → Entry
 as_read e = record { client = e.client; clock = e.clock; state = state_of (state_text e.state) }
 
@@ -55,12 +55,12 @@ Same (custom tag part) = Unit {0}
 pub record ReadsBack (t : Told) (bs : List ℕ) : Type 0 where
   -- but for a custom tag below 4, which has another meaning
   pub whole_message : OwnTag t → (rest : List ℕ) → next (bs ++ rest) ≡ whole (said t) rest
-  -- but for a live text that spells null, which is read as null
+  -- but for a text that spells null, which is read as none
   pub same_contents : Same t
 
 -- the two exceptions are met by messages
 pub record ExceptionsAreReal : Type 0 where
   -- custom tag 3 without data is read as a query, and a byte is left
   pub low_tag : (message_out (custom 3 []) ≡ Ok (3 ∷ 0 ∷ [])) × (next (3 ∷ 0 ∷ []) ≡ whole Said.query (0 ∷ []))
-  -- a live text null is read as null
-  pub live_null : as_read (record { client = 7; clock = 3; state = live (codes "null") }) ≡ record { client = 7; clock = 3; state = null }
+  -- a text null is read as none
+  pub live_null : as_read (record { client = 7; clock = 3; state = Some (codes "null") }) ≡ record { client = 7; clock = 3; state = None }

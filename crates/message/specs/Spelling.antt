@@ -6,14 +6,14 @@
 --   PresenceIs        a count, then so many entries
 --   Holds             what a message's buffer has to hold
 --   MessagesAreAsSpelt   messages are read exactly as they are spelt
-use Rattle.std.specs.Prelude.{◌≡◌, ℕ, ◌-◌, ◌^◌, ◌<◌, ◌≤◌, List, [], ◌++◌, codes, ◌≢◌}
+use Rattle.std.specs.Prelude.{◌≡◌, ℕ, ◌-◌, ◌^◌, ◌<◌, ◌≤◌, List, [], ◌++◌, Some, None, codes, Option, ◌≢◌}
 use Rattle.encoding.specs.Spelling.{Exactly, NumberIs, BufferIs, TextIs, ClientIs, PresenceTextIs, CountedIs}
 use Rattle.state_vector.specs.declared.vector.VectorEntry.{VectorEntry}
 use Rattle.state_vector.specs.Spelling.{VectorIs}
 use Rattle.state_vector.specs.Vector.{vector_entries}
 use Rattle.message.specs.Message.{Said, step1, step2, update, awareness, denied, granted, query, custom, message}
 use Rattle.message.specs.Messages.{whole, next}
-use Rattle.message.specs.Presence.{State, null, live, Entry, presence}
+use Rattle.message.specs.Presence.{Entry, presence}
 
 -- a number of 8 bits, then a body
 abbrev pub Tagged : ℕ → (List ℕ → Type 0) → List ℕ → Type 0
@@ -38,10 +38,10 @@ pub data MessageIs : Said → List ℕ → Type 0 where
   -- any other tag and a buffer
   custom_is : {tag : ℕ} {part bs : List ℕ} → 4 ≤ tag → Tagged tag (BufferIs part) bs → MessageIs (custom tag part) bs
 
--- what a text shows: null where it is the four bytes of null, and else itself
-abbrev pub Shows : List ℕ → State → Type 0
-Shows text null = text ≡ codes "null"
-Shows text (live shown) = (text ≡ shown) × (text ≢ codes "null")
+-- what a text shows: none where it is the four bytes of null, and else itself
+abbrev pub Shows : List ℕ → Option (List ℕ) → Type 0
+Shows text None = text ≡ codes "null"
+Shows text (Some shown) = (text ≡ shown) × (text ≢ codes "null")
 
 -- a client id, a clock of 32 bits, then a presence text
 abbrev pub PresenceEntryIs : Entry → List ℕ → Type 0

@@ -1,5 +1,4 @@
 -- Messages as they are written.
---   own_entry           what an owned entry says
 --   presence_entry_out   an entry: its client id, its clock, then its text
 --   presence_out        a presence update: a count, then so many entries
 --   Told               what a message to be written says, by its parts
@@ -11,6 +10,7 @@
 --   message_out         a message as it is written, or why it is not
 --   Written            a message in a buffer, or a refusal that changes nothing
 use Rattle.std.specs.Prelude.{◌≡◌, ℕ, ◌-◌, ◌^◌, ◌<◌, ◌≤◌, true, List, [], ◌∷◌, ◌++◌, length, Ok, Err, Result}
+use Rattle.std.specs.List.{All}
 use Rattle.encoding.specs.declared.fault.WireFault.{WireFault}
 use Rattle.encoding.specs.declared.write.WriteFault.{WriteFault}
 use Rattle.encoding.specs.declared.write.WriteFault.TheVariants.{Short}
@@ -21,13 +21,8 @@ use Rattle.state_vector.specs.declared.vector.VectorEntry.{VectorEntry}
 use Rattle.state_vector.specs.Tables.{ascends, all_below}
 use Rattle.state_vector.specs.Vector.{client_of}
 use Rattle.state_vector.specs.VectorOut.{vector_out}
-use Rattle.message.specs.declared.update.Presence.{Presence}
-use Rattle.message.specs.Owned.{own_state, state_text}
+use Rattle.message.specs.Owned.{state_text}
 use Rattle.message.specs.Presence.{Entry}
-
--- what an owned entry says
-abbrev pub own_entry : Presence → Entry
-own_entry p = record { client = p.client; clock = p.clock; state = own_state p.state }
 
 -- an entry: its client id, its clock, then its text
 abbrev pub presence_entry_out : Entry → List ℕ
@@ -57,15 +52,10 @@ pub data Told : Type 0 where
 abbrev pub Readable : Entry → Type 0
 Readable e = (e.client < 2 ^ 53) × (e.clock < 2 ^ 32) × (presence_text (state_text e.state) ≡ Ok tt)
 
--- each entry can be read again
-abbrev pub AllReadable : List Entry → Type 0
-AllReadable [] = Unit {0}
-AllReadable (e ∷ es) = Readable e × AllReadable es
-
 -- the parts of a message can be read again: at most 64 entries that ascend by client, each within its limits
 abbrev pub Sound : Told → Type 0
 Sound (step1 es) = (length es ≤ 64) × (ascends client_of es ≡ true) × (all_below client_of (2 ^ 53) es ≡ true) × (all_below (λ e. e.clock) (2 ^ 32) es ≡ true)
-Sound (awareness es) = (length es ≤ 64) × (ascends (λ e. e.client) es ≡ true) × AllReadable es
+Sound (awareness es) = (length es ≤ 64) × (ascends (λ e. e.client) es ≡ true) × All Readable es
 Sound (step2 part) = Unit {0}
 Sound (update part) = Unit {0}
 Sound (denied reason) = Unit {0}

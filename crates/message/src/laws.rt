@@ -4,22 +4,16 @@ ghost use Rattle.message.specs.ReadBack.{ExceptionsAreReal};
 ghost use Rattle.message.specs.Spelling.{MessagesAreAsSpelt};
 
 // What is read as a message is what the bytes spell, both ways.
-pub fn messages_are_as_spelt() -> u8
+pub fn messages_are_as_spelt()
     ensures { MessagesAreAsSpelt }
-{
-    0
-}
+{}
 
 // The two messages that do not read back as they were written.
-pub fn exceptions_are_real() -> u8
+pub fn exceptions_are_real()
     ensures { ExceptionsAreReal }
-{
-    0
-}
+{}
 
 // What was read, written again, is never longer and says the same.
-pub fn read_and_written_again() -> u8
+pub fn read_and_written_again()
     ensures { ReadAndWrittenAgain }
-{
-    0
-}
+{}

@@ -1,11 +1,14 @@
 // Messages one after another, and how their row ends.
-ghost use Rattle.std.specs.Prelude.{◌≡◌, ◌≤◌, min, map, length, take, drop};
+ghost use Rattle.std.specs.Prelude.{◌≡◌, ◌-◌, ◌≤◌, min, map, length, take, drop};
+ghost use Rattle.std.specs.Iterator.{item_count};
 ghost use Rattle.message.specs.Messages.{next, next_is, messages, placed_is, end_of};
+ghost use Rattle.message.specs.Reader.{Reader, to_come, ComesNext};
 
 use crate::message::{Message, check_contents, read_message};
 use encoding::fault::WireFault;
+use std::marker::Model;
 
-// What stands at the front of the bytes.
+// What stands at the front of the bytes. Four cases that exclude one another: a Result of an Option would nest them.
 #[derive(Clone, Copy, Debug)]
 pub enum Next<'a> {
     // a whole message, and the bytes after it
@@ -25,7 +28,7 @@ pub struct Placed<'a> {
     pub message: Message<'a>,
 }
 
-// How a row of messages ends: with the bytes, or at the place of a message that is cut short or refused.
+// How a row of messages ends: with the bytes, or at the place of a message that is cut short or refused. A Result would make faults of the first two.
 #[derive(Clone, Copy, Debug)]
 pub enum End {
     Ended,
@@ -57,6 +60,69 @@ pub fn read_next(s: &[u8]) -> Next<'_>
     }
 }
 
+// Reads the messages of bytes, one after another, up to the first that is cut short or refused.
+#[derive(Debug, Drop)]
+pub struct MessageReader<'a> {
+    bytes: &'a [u8],
+    rest: &'a [u8],
+}
+
+impl<'a> Model for MessageReader<'a> {
+    ghost Value = { Reader };
+
+    ghost view = { λ r. record { place = length r.bytes.now - length r.rest.now; left = r.rest.now } };
+
+    ghost invariant = { λ r. length r.rest.now ≤ length r.bytes.now };
+}
+
+impl<'a> MessageReader<'a> {
+    // A reader at the first message.
+    pub fn new(bytes: &'a [u8]) -> MessageReader<'a>
+        ensures { result ≡ record { place = 0; left = bytes.now } }
+    {
+        MessageReader { bytes, rest: bytes }
+    }
+
+    // The place that reading has come to.
+    pub fn place(&self) -> usize
+        ensures { result ≡ self.now.place }
+    {
+        self.bytes.len() - self.rest.len()
+    }
+
+    // How the row ends, where no message is left in it.
+    pub fn end(&self) -> Option<End>
+        ensures { result ≡ end_of 0 (to_come self.now) }
+    {
+        match read_next(self.rest) {
+            Next::Whole(_, _) => None,
+            Next::Ended => Some(End::Ended),
+            Next::Cut => Some(End::Cut(self.place())),
+            Next::Refused(fault) => Some(End::Refused(self.place(), fault)),
+        }
+    }
+}
+
+impl<'a> Iterator for MessageReader<'a> {
+    type Item = Placed<'a>;
+
+    ghost next_gives = { ComesNext };
+
+    ghost remaining = { item_count (λ r. (to_come r).said) };
+
+    // The next message, where a whole one stands there; reading stays at one that is cut short or refused.
+    fn next(&mut self) -> Option<Placed<'a>> {
+        let place = self.place();
+        match read_next(self.rest) {
+            Next::Whole(message, rest) => {
+                self.rest = rest;
+                Some(Placed { place, message })
+            }
+            Next::Ended | Next::Cut | Next::Refused(_) => None,
+        }
+    }
+}
+
 // Reads the first messages of the bytes again, as many as there are places for.
 pub fn read_messages<'a>(bytes: &'a [u8], into: &mut [Placed<'a>]) -> Row
     ensures count { result.count ≡ min (length into.old) (length (messages bytes.now).said) }
@@ -64,31 +130,18 @@ pub fn read_messages<'a>(bytes: &'a [u8], into: &mut [Placed<'a>]) -> Row
     ensures rest { drop result.count into.new ≡ drop result.count into.old }
     ensures end { result.end ≡ end_of (length into.old) (messages bytes.now) }
 {
-    let mut rest = bytes;
-    let mut count = 0;
-    loop {
-        let place = bytes.len() - rest.len();
-        match read_next(rest) {
-            Next::Whole(message, after) => {
-                if count == into.len() {
-                    return Row { count, end: None };
-                }
-                into[count] = Placed { place, message };
-                count += 1;
-                rest = after;
-            }
-            Next::Ended => return Row {
+    let mut reader = MessageReader::new(bytes);
+    for (count, slot) in into.iter_mut().enumerate() {
+        let Some(placed) = reader.next() else {
+            return Row {
                 count,
-                end: Some(End::Ended),
-            },
-            Next::Cut => return Row {
-                count,
-                end: Some(End::Cut(place)),
-            },
-            Next::Refused(fault) => return Row {
-                count,
-                end: Some(End::Refused(place, fault)),
-            },
-        }
+                end: reader.end(),
+            };
+        };
+        *slot = placed;
+    }
+    Row {
+        count: into.len(),
+        end: reader.end(),
     }
 }

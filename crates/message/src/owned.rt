@@ -1,38 +1,25 @@
-// Presence as it is kept and written: what is here has been judged, and can be read again.
-ghost use Rattle.std.specs.Prelude.{◌≡◌, ◌^◌, ◌<◌};
-ghost use Rattle.message.specs.Kept.{made_as};
-ghost use Rattle.message.specs.Owned.{state_text, own_state, owned_state};
-ghost use Rattle.message.specs.Presence.{state_is};
+// What a client shows, as it is kept and written: nothing, or a text that has been judged and can be read again.
+ghost use Rattle.std.specs.Prelude.{◌≡◌, ◌≤◌, length};
+ghost use Rattle.std.specs.Option.{option_copied};
+ghost use Rattle.message.specs.Owned.{owned_state, state_text};
 
-use crate::presence::PresenceState;
 use crate::text::PresenceText;
 use encoding::fault::WireFault;
 
-// What a client shows: nothing more, or a text.
-#[derive(Clone, Copy)]
-pub enum State {
-    Null,
-    Live(PresenceText),
+// A copy of a state that borrows its text.
+pub fn owned_state(state: Option<&[u8]>) -> Result<Option<PresenceText>, WireFault>
+    ensures { result ≡ owned_state (option_copied state.entry) }
+{
+    state.map(PresenceText::new).transpose()
 }
 
-impl State {
-    // A copy of a state that borrows its text.
-    pub fn new(state: PresenceState<'_>) -> Result<State, WireFault>
-        ensures { made_as own_state result ≡ owned_state (state_is state.entry) }
-    {
-        match state {
-            PresenceState::Null => Ok(State::Null),
-            PresenceState::Live(text) => Ok(State::Live(PresenceText::new(text)?)),
-        }
-    }
-
-    // The text that says the state on the wire.
-    pub fn text(&self) -> &[u8]
-        ensures { result.now ≡ state_text (own_state self.now) }
-    {
-        match self {
-            State::Null => b"null",
-            State::Live(text) => text.as_bytes(),
-        }
+// The text that says a state on the wire.
+pub fn state_text(state: Option<&PresenceText>) -> &[u8]
+    ensures says { result.now ≡ state_text (option_copied state.entry) }
+    ensures short { length result.now ≤ 256 }
+{
+    match state {
+        None => b"null",
+        Some(text) => text.as_bytes(),
     }
 }

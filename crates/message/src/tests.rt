@@ -1,9 +1,10 @@
 // Examples of messages, whole, cut short and refused, and of messages written.
 use crate::message::Message;
 use crate::messages::*;
-use crate::presence::{PresenceEntry, PresenceState, read_presence_entry};
+use crate::presence::PresenceEntry;
 use crate::update::{Presence, PresenceUpdate};
 use crate::write::*;
+use encoding::entries::Decode;
 use encoding::fault::WireFault;
 use encoding::write::WriteFault;
 use state_vector::vector::{StateVector, VectorEntry};
@@ -165,13 +166,10 @@ fn drafts_are_written_as_their_bytes(rt: HostRuntime) -> Result<(), Fail> {
 fn a_vector_is_written_as_step_1(rt: HostRuntime) -> Result<(), Fail> {
     let mut v = StateVector::new();
     check_written(&rt, &v, b"\x00\x00\x01\x00")?;
-    StateVector::put(
-        &mut v,
-        VectorEntry {
-            client: 5,
-            clock: 300,
-        },
-    )?;
+    v.put(VectorEntry {
+        client: 5,
+        clock: 300,
+    })?;
     check_written(&rt, &v, b"\x00\x00\x04\x01\x05\xac\x02")
 }
 
@@ -180,7 +178,7 @@ fn live(client: u64, clock: u32, text: &[u8]) -> PresenceEntry<'_> {
     PresenceEntry {
         client,
         clock,
-        state: PresenceState::Live(text),
+        state: Some(text),
     }
 }
 
@@ -188,7 +186,7 @@ fn live(client: u64, clock: u32, text: &[u8]) -> PresenceEntry<'_> {
 fn update_of(entries: &[PresenceEntry]) -> Result<PresenceUpdate, WireFault> {
     let mut update = PresenceUpdate::new();
     for e in entries {
-        PresenceUpdate::put(&mut update, Presence::new(*e)?)?;
+        update.put(Presence::new(*e)?)?;
     }
     Ok(update)
 }
@@ -200,7 +198,7 @@ fn a_presence_update_is_written_as_awareness(rt: HostRuntime) -> Result<(), Fail
     let null = PresenceEntry {
         client: 7,
         clock: 3,
-        state: PresenceState::Null,
+        state: None,
     };
     check_written(&rt, &update_of(&[null])?, b"\x01\x08\x01\x07\x03\x04null")?;
     // ascending, and a later entry in the place of an earlier one
@@ -212,16 +210,13 @@ fn a_presence_update_is_written_as_awareness(rt: HostRuntime) -> Result<(), Fail
 fn a_65th_client_is_refused(rt: HostRuntime) -> Result<(), Fail> {
     let mut update = PresenceUpdate::new();
     for client in 0..64u64 {
-        PresenceUpdate::put(&mut update, Presence::new(live(client, 1, b"1"))?)?;
+        update.put(Presence::new(live(client, 1, b"1"))?)?;
     }
     let another = Presence::new(live(64, 1, b"1"))?;
-    assert_eq!(rt;
-        PresenceUpdate::put(&mut update, another),
-        Err(WireFault::TooManyEntries)
-    );
+    assert_eq!(rt; update.put(another), Err(WireFault::TooManyEntries));
     assert_eq!(rt; update.entries().len(), 64);
     let known = Presence::new(live(63, 2, b"1"))?;
-    assert_eq!(rt; PresenceUpdate::put(&mut update, known), Ok(()));
+    assert_eq!(rt; update.put(known), Ok(()));
     Ok(())
 }
 
@@ -267,9 +262,9 @@ fn two_read_back_as_others(rt: HostRuntime) -> Result<(), Fail> {
     }
     let spelt = update_of(&[live(7, 3, b"null")])?;
     check_written(&rt, &spelt, b"\x01\x08\x01\x07\x03\x04null")?;
-    let (e, _) = read_presence_entry(b"\x07\x03\x04null")?;
+    let (e, _) = PresenceEntry::read(b"\x07\x03\x04null")?;
     match e.state {
-        PresenceState::Null => Ok(()),
-        PresenceState::Live(_) => Err(Fail::new("null")),
+        None => Ok(()),
+        Some(_) => Err(Fail::new("null")),
     }
 }

@@ -1,48 +1,46 @@
 // A presence text of its own, for what is kept and what is written.
-ghost use Rattle.std.specs.Prelude.{◌≡◌, ◌≤◌, true, length, take, is_ok};
+ghost use Rattle.std.specs.Prelude.{◌≡◌, ◌≤◌, length, Ok};
 ghost use Rattle.encoding.specs.Fields.{presence_text};
-ghost use Rattle.message.specs.Kept.{made_as, kept_text};
+ghost use Rattle.message.specs.Owned.{kept_text};
 
+use arrayvec::ArrayVec;
 use encoding::fault::WireFault;
 use encoding::read::check_presence_text;
+use std::marker::Model;
 
 // At most 256 bytes that can be a presence text.
-#[derive(Clone, Copy)]
+#[derive(Drop)]
 pub struct PresenceText {
-    bytes: [u8; 256],
-    len: usize,
-    ghost fits: { len ≤ 256 },
-    ghost passes: { is_ok (presence_text (take len bytes)) ≡ true },
+    bytes: ArrayVec<u8, 256>,
 }
 
-// The bytes at the front of an array. That there are few enough is known to the caller, who has judged the text.
-fn stored(text: &[u8]) -> [u8; 256]
-    requires { length text.now ≤ 256 }
-    ensures { take (length text.now) result ≡ text.now }
-{
-    let mut bytes = [0; 256];
-    bytes[0..text.len()].copy_from_slice(text);
-    bytes
+impl Model for PresenceText {
+    ghost use Rattle.std.specs.Prelude.{◌≡◌, ℕ, List, Ok};
+    ghost use Rattle.encoding.specs.Fields.{presence_text};
+
+    ghost Value = { List ℕ };
+
+    ghost view = { λ t. t.bytes.items };
+
+    ghost invariant = { λ t. presence_text t.bytes.items ≡ Ok tt };
 }
 
 impl PresenceText {
     // A copy of the bytes, where they can be a presence text.
     pub fn new(text: &[u8]) -> Result<PresenceText, WireFault>
-        ensures { made_as (λ t. take t.len t.bytes) result ≡ kept_text text.now }
+        ensures { result ≡ kept_text text.now }
     {
         check_presence_text(text)?;
-        let bytes = stored(text);
-        Ok(PresenceText {
-            bytes,
-            len: text.len(),
-        })
+        let bytes = ArrayVec::try_from(text).map_err(|_| WireFault::TextTooLong)?;
+        Ok(PresenceText { bytes })
     }
 
     // The bytes of the text.
     pub fn as_bytes(&self) -> &[u8]
-        ensures value { result.now ≡ take self.now.len self.now.bytes }
+        ensures value { result.now ≡ self.now }
         ensures short { length result.now ≤ 256 }
+        ensures passes { presence_text result.now ≡ Ok tt }
     {
-        &self.bytes[0..self.len]
+        self.bytes.as_slice()
     }
 }

@@ -1,34 +1,48 @@
 // A presence update to be written: its entries ascend by client, each client once.
-ghost use Rattle.std.specs.Prelude.{◌≡◌, ◌^◌, ◌<◌, ◌≤◌, true, [], length, take, if◌then◌else◌, Ok, Err};
+ghost use Rattle.std.specs.Prelude.{◌≡◌, ◌≤◌, true, [], length, if◌then◌else◌, Ok, Err};
+ghost use Rattle.std.specs.List.{All};
+ghost use Rattle.std.specs.Option.{option_copied};
 ghost use Rattle.encoding.specs.declared.fault.WireFault.TheVariants.{TooManyEntries};
 ghost use Rattle.state_vector.specs.Tables.{ascends, full, updated};
-ghost use Rattle.message.specs.Kept.{made_as};
-ghost use Rattle.message.specs.Owned.{own_state, owned_entry};
+ghost use Rattle.message.specs.Owned.{owned_entry};
 ghost use Rattle.message.specs.Presence.{entry_is};
+ghost use Rattle.message.specs.Writing.{Readable};
 
-use crate::owned::State;
+use crate::owned::owned_state;
 use crate::presence::PresenceEntry;
+use crate::text::PresenceText;
 use encoding::fault::WireFault;
 use encoding::read::check_client_id;
-use state_vector::keyed::{Keyed, Outcome, Table};
+use state_vector::keyed::{Keyed, Table};
+use std::marker::Model;
 
 // What one client says of itself, with an id that can be written.
-#[derive(Clone, Copy)]
+#[derive(Default, Drop)]
 pub struct Presence {
     client: u64,
     clock: u32,
-    state: State,
-    ghost known: { client < 2 ^ 53 },
-    ghost narrow: { clock < 2 ^ 32 },
+    state: Option<PresenceText>,
+}
+
+impl Model for Presence {
+    ghost use Rattle.message.specs.Presence.{Entry};
+    ghost use Rattle.message.specs.Writing.{Readable};
+
+    ghost Value = { Entry };
+
+    ghost view = { λ p. record { client = p.client; clock = p.clock; state = p.state } };
+
+    ghost invariant = { λ p. Readable (record { client = p.client; clock = p.clock; state = p.state }) };
 }
 
 impl Presence {
     // A copy of an entry that borrows its text: its id is judged, then its text.
+    #[tactic(auto, using(crate::proofs::Sound::owned_passes))]
     pub fn new(e: PresenceEntry<'_>) -> Result<Presence, WireFault>
-        ensures { made_as (λ p. record { client = p.client; clock = p.clock; state = own_state p.state }) result ≡ owned_entry (entry_is e.entry) }
+        ensures { result ≡ owned_entry (entry_is e.entry) }
     {
         check_client_id(e.client)?;
-        let state = State::new(e.state)?;
+        let state = owned_state(e.state)?;
         Ok(Presence {
             client: e.client,
             clock: e.clock,
@@ -43,11 +57,12 @@ impl Presence {
         self.clock
     }
 
-    // What it shows.
-    pub fn state(&self) -> &State
-        ensures { result.now ≡ self.now.state }
+    // What it shows; all that it says can be read again.
+    pub fn state(&self) -> Option<&PresenceText>
+        ensures shows { option_copied result ≡ self.now.state }
+        ensures readable { Readable self.now }
     {
-        &self.state
+        self.state.as_ref()
     }
 }
 
@@ -62,51 +77,50 @@ impl Keyed for Presence {
 // At most 64 entries that ascend by client id.
 #[derive(Drop)]
 pub struct PresenceUpdate {
-    entries: [Presence; 64],
-    len: usize,
-    ghost fits: { len ≤ 64 },
-    ghost ascending: { ascends (λ e. e.client) (take len entries) ≡ true },
+    table: Table<Presence, 64>,
+}
+
+impl Model for PresenceUpdate {
+    ghost use Rattle.std.specs.Prelude.{List};
+    ghost use Rattle.std.specs.List.{All};
+    ghost use Rattle.message.specs.Presence.{Entry};
+    ghost use Rattle.message.specs.Writing.{Readable};
+
+    ghost Value = { List Entry };
+
+    ghost view = { λ u. u.table };
+
+    ghost invariant = { λ u. All Readable u.table };
 }
 
 impl PresenceUpdate {
     // An update without entries.
     pub fn new() -> PresenceUpdate
-        ensures { take result.len result.entries ≡ [] }
+        ensures { result ≡ [] }
     {
-        let none = Presence {
-            client: 0,
-            clock: 0,
-            state: State::Null,
-        };
         PresenceUpdate {
-            entries: [none; 64],
-            len: 0,
+            table: Table::new(),
         }
     }
 
     // The entries, ascending by client id.
     pub fn entries(&self) -> &[Presence]
-        ensures all { result.now ≡ take self.now.len self.now.entries }
+        ensures all { result.now ≡ self.now }
         ensures few { length result.now ≤ 64 }
         ensures ascends { ascends (λ e. e.client) result.now ≡ true }
+        ensures readable { All Readable result.now }
     {
-        &self.entries[0..self.len]
+        self.table.entries()
     }
 
     // Puts an entry in, in the place of an earlier one of its client; a 65th client is refused with nothing changed.
     pub fn put(&mut self, e: Presence) -> Result<(), WireFault>
-        ensures answer { result ≡ (if full (λ e. e.client) 64 (take self.old.len self.old.entries) e then Err TooManyEntries else Ok tt) }
-        ensures used { take self.new.len self.new.entries ≡ updated (λ e. e.client) 64 (take self.old.len self.old.entries) e }
+        ensures answer { result ≡ (if full (λ e. e.client) 64 self.old e then Err TooManyEntries else Ok tt) }
+        ensures used { self.new ≡ updated (λ e. e.client) 64 self.old e }
     {
-        let mut table = Table {
-            entries: &mut self.entries,
-            len: self.len,
-        };
-        let outcome = table.put(e);
-        self.len = table.len;
-        match outcome {
-            Outcome::Full => Err(WireFault::TooManyEntries),
-            _ => Ok(()),
-        }
+        // the entry has passed, by its invariant
+        let _passed = &e.client;
+        self.table.put(e)?;
+        Ok(())
     }
 }

@@ -1,17 +1,18 @@
 // Messages written from their parts: every message is counted before it is written.
-ghost use Rattle.std.specs.Prelude.{◌≡◌, ℕ, List, map, take, IfOk, Ok};
+ghost use Rattle.std.specs.Prelude.{◌≡◌, ℕ, List, take, IfOk, Ok};
 ghost use Rattle.encoding.specs.Writing.{shortest, buffer_out, counted_out, Sent};
-ghost use Rattle.message.specs.Writing.{Told, step1, awareness, Sound, presence_entry_out, own_entry, led, asks, drafted, message_out, Written};
+ghost use Rattle.message.specs.Writing.{Told, step1, awareness, Sound, presence_entry_out, led, asks, drafted, message_out, Written};
 ghost use Rattle.message.specs.Drafts.{tells};
 ghost use Rattle.message.specs.ReadBack.{ReadsBack};
 
 use crate::message::*;
+use crate::owned::state_text;
 use crate::update::{Presence, PresenceUpdate};
-use encoding::entries_out::{Entry, write_entries_buf};
+use encoding::entries_out::{Chosen, Entry};
 use encoding::fault::WireFault;
 use encoding::sink::{BufferTooShort, Counter, Filler, Sink};
 use encoding::utf8::is_text;
-use encoding::write::{WriteFault, write_buf, write_var_u8, write_var_u32, write_var_u64};
+use encoding::write::{WriteFault, write_buf, write_var};
 use state_vector::keyed::Keyed;
 use state_vector::vector::StateVector;
 
@@ -42,17 +43,18 @@ pub enum Draft<'a> {
 }
 
 impl Entry for Presence {
-    ghost out = { λ p. presence_entry_out (own_entry p) };
+    ghost out = { presence_entry_out };
 
     // The client id, the clock, then the text.
     fn write<S: Sink>(&self, sink: &mut S) -> Result<(), BufferTooShort> {
-        write_var_u64(sink, self.client())?;
-        write_var_u32(sink, self.clock())?;
-        write_buf(sink, self.state().text())
+        write_var(sink, self.client())?;
+        write_var(sink, self.clock())?;
+        write_buf(sink, state_text(self.state()))
     }
 }
 
-// Bytes that lead, then a buffer.
+// Bytes that lead, then a buffer. This and the next two are one shape and stay three: a closure for what differs would have
+// to be told of in a contract that is longer than the functions.
 fn put_led<S: Sink>(sink: &mut S, lead: &[u8], part: &[u8]) -> Result<(), BufferTooShort>
     ensures { Sent S.Sink.room S.Sink.step sink.old (led lead.now (buffer_out part.now)) result sink.new }
 {
@@ -69,22 +71,23 @@ fn put_led_entries<E: Entry, S: Sink>(
     ensures { Sent S.Sink.room S.Sink.step sink.old (led lead.now (buffer_out (counted_out E.Entry.out entries.now))) result sink.new }
 {
     sink.put_all(lead)?;
-    write_entries_buf(sink, entries)
+    Chosen::all(entries).write_buf(sink)
 }
 
 // A tag, then a buffer.
 fn put_custom<S: Sink>(sink: &mut S, tag: u8, part: &[u8]) -> Result<(), BufferTooShort>
     ensures { Sent S.Sink.room S.Sink.step sink.old (led (shortest tag) (buffer_out part.now)) result sink.new }
 {
-    write_var_u8(sink, tag)?;
+    write_var(sink, tag)?;
     write_buf(sink, part)
 }
 
 impl Outgoing for StateVector {
-    ghost told = { λ v. step1 (take v.len v.entries) };
+    ghost told = { step1 };
 
-    // A vector's ids are judged when it is made.
+    // A vector's ids are judged when it is made: its entries have passed.
     fn check(&self) -> Result<(), WireFault> {
+        let _passed = self.entries();
         Ok(())
     }
 
@@ -95,10 +98,11 @@ impl Outgoing for StateVector {
 }
 
 impl Outgoing for PresenceUpdate {
-    ghost told = { λ u. awareness (map own_entry (take u.len u.entries)) };
+    ghost told = { awareness };
 
-    // An entry's id and text are judged when it is made.
+    // An entry's id and text are judged when it is made: the entries have passed.
     fn check(&self) -> Result<(), WireFault> {
+        let _passed = self.entries();
         Ok(())
     }
 
@@ -114,15 +118,8 @@ impl Outgoing for Draft<'_> {
     // A reason has to be a text.
     fn check(&self) -> Result<(), WireFault> {
         match *self {
-            Draft::AuthDenied(reason) => {
-                if is_text(reason) {
-                    Ok(())
-                } else {
-                    Err(WireFault::UnexpectedValue)
-                }
-            }
-            Draft::SyncStep2(_) | Draft::Update(_) | Draft::Custom(_, _) => Ok(()),
-            Draft::AuthGranted | Draft::AwarenessQuery => Ok(()),
+            Draft::AuthDenied(reason) if !is_text(reason) => Err(WireFault::UnexpectedValue),
+            _ => Ok(()),
         }
     }
 
@@ -140,6 +137,7 @@ impl Outgoing for Draft<'_> {
 }
 
 // A message into a buffer from a place on, and how many bytes it has: judged, then counted, and only then written.
+// The buffer and the place come apart: they are a filler only once the message is counted.
 pub fn write_at<M: Outgoing>(m: &M, out: &mut [u8], at: usize) -> Result<usize, WriteFault>
     ensures written { Written out.old at (message_out (M.Outgoing.told m.now)) result out.new }
     ensures back { (bs : List ℕ) → message_out (M.Outgoing.told m.now) ≡ Ok bs → ReadsBack (M.Outgoing.told m.now) bs }

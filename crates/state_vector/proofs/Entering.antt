@@ -3,7 +3,7 @@ use Rattle.std.proofs.Common.{◌≡◌, ℕ, zero, suc, ◌+◌, ◌<◌, ◌�
 use Rattle.std.specs.List.{insert}
 use Rattle.std.proofs.lemmas.Bool.{ltb-true, and_parts, and_from, eq-eqb, ne_eqb, lt-ltb, le-ltb, cond-true, cond-false, cases_Bool, cases_order, cond_both}
 use Rattle.state_vector.proofs.Keys.{above_less, skip, stop, none_above}
-use Rattle.state_vector.specs.Tables.{all_above, all_below, ascends, place, held, better, raised, entered}
+use Rattle.state_vector.specs.Tables.{all_above, ascends, place, held, better, raised, entered}
 
 module _ {E : Type 0} (key : E → ℕ) (above : E → E → Bool) where
   -- the three ways in which e meets the first entry
@@ -69,17 +69,6 @@ module _ {E : Type 0} (key : E → ℕ) (above : E → E → Bool) where
       (⊎_elim
       (λ m. ap (ascends key) (at_below x xs e m) ∙ and_from _ _ (above_entered (key x) xs e m p.0) (ascends_entered xs e p.1))
       (λ m. ap (ascends key) (at_over x xs e m) ∙ and_from _ _ (and_from _ _ (lt-ltb (key e) (key x) m) (above_less key (key e) (key x) xs (omega arith) p.0)) h))
-      (cases_order (key x) (key e))
-
-  pub below_entered : (n : ℕ) (xs : List E) (e : E) → key e < n → all_below key n xs ≡ true → all_below key n (entered key above xs e) ≡ true
-  below_entered n [] e l h = and_from _ _ (lt-ltb (key e) n l) refl
-  below_entered n (x ∷ xs) e l h =
-      let p = and_parts (ltb (key x) n) (all_below key n xs) h in
-      ⊎_elim
-      (λ s. ap (all_below key n) (at_same x xs e s) ∙ and_from _ _ (lt-ltb _ n (omega (arith, key_better e x s))) p.1)
-      (⊎_elim
-      (λ m. ap (all_below key n) (at_below x xs e m) ∙ and_from _ _ p.0 (below_entered n xs e l p.1))
-      (λ m. ap (all_below key n) (at_over x xs e m) ∙ and_from _ _ (lt-ltb (key e) n l) h))
       (cases_order (key x) (key e))
 
   -- what is held under each key afterwards

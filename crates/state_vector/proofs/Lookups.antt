@@ -1,6 +1,11 @@
 -- What a search shows of a list that ascends.
-use Rattle.std.proofs.Common.{◌≡◌, ℕ, zero, suc, ◌+◌, ◌<◌, ◌≤◌, true, eqb, ltb, List, [], ◌∷◌, length, get_or, Some, None, sym, refl, ap, ◌∙◌, ⊎_elim, arith}
-use Rattle.std.proofs.lemmas.List.{get_or_read}
+use Rattle.std.proofs.Common.{◌≡◌, ℕ, zero, suc, ◌+◌, ◌<◌, ◌≤◌, true, eqb, ltb, List, [], ◌∷◌, length, get_or, Some, None, Ok, Err, Result, MatchResult, sym, refl, ap, ◌∙◌, ⊎_elim, arith}
+use Rattle.std.specs.Cmp.{nat_cmp_total}
+use Rattle.std.specs.List.Sorted.{IsBinarySearchResult, IsNonDecreasingBy, IsSearchInRange}
+use Rattle.std.specs.Ordering.{nat_cmp, ordering_index}
+use Rattle.std.proofs.lemmas.Cmp.{ranked}
+use Rattle.std.proofs.lemmas.List.Sorted.{searchable_from_sorted}
+use Rattle.std.proofs.lemmas.Bool.Decides.{nat_tests}
 use Rattle.std.proofs.lemmas.Bool.{cases_lt, ltb-true, and_parts, eq-eqb, ne_eqb, lt-ltb, le-ltb, cond-true, cond-false}
 use Rattle.state_vector.specs.Tables.{all_above, ascends, place, held, Found, Missing}
 
@@ -55,15 +60,11 @@ module _ {E : Type 0} (key : E → ℕ) where
           here,
         )
 
-    -- a step of the search, up and down
-    pub low_more : (xs : List E) (i : ℕ) → ascends key xs ≡ true → i < length xs → ((d : E) → key (get_or xs i d) < c) → (k : ℕ) (d : E) → k < i + 1 → key (get_or xs k d) < c
-    low_more xs i up l here k d m =
-        ⊎_elim (λ (lt : k < i). omega (arith, ascends_at xs k i d up lt l, here d)) (λ (le : i ≤ k). let e : k ≡ i = omega arith in rw e (here d)) (cases_lt k i)
+    -- the comparisons with the key rise along the list, as a search by halves asks
+    rises : (xs : List E) → ascends key xs ≡ true → IsNonDecreasingBy (λ x. ordering_index (nat_cmp (key x) c)) xs
+    rises xs up = searchable_from_sorted nat_cmp_total key xs c (λ k d low l. grind (arith, nat_tests, ascends_at xs k (k + 1) d up))
 
-    pub high_less : (xs : List E) (i : ℕ) → ascends key xs ≡ true → i < length xs → ((d : E) → c < key (get_or xs i d)) → (k : ℕ) (d : E) → i ≤ k → k < length xs → c < key (get_or xs k d)
-    high_less xs i up l here k d m n =
-        ⊎_elim (λ (lt : i < k). omega (arith, ascends_at xs i k d up lt n, here d)) (λ (le : k ≤ i). let e : k ≡ i = omega arith in rw e (here d)) (cases_lt i k)
-
-  -- the key of an element that was read
-  pub read_key : (xs : List E) (i n : ℕ) (x : E) → i < length xs → x ≡ get_or xs i x → n ≡ key x → (d : E) → key (get_or xs i d) ≡ n
-  read_key xs i n x l is e d = ap key (sym (get_or_read xs i x l is d)) ∙ sym e
+    -- what the library's search tells of a list that ascends
+    pub searched : (xs : List E) (r : Result ℕ ℕ) → ascends key xs ≡ true → IsSearchInRange r (length xs) → IsBinarySearchResult (λ x. nat_cmp (key x) c) xs r → MatchResult r (Found key c xs) (Missing key c xs)
+    searched xs (Ok i) up l equal = held_from xs i up l (λ d. ranked _ c _ (sym (equal d)))
+    searched xs (Err i) up l parted = free_from xs i l (λ k d m. ranked _ c _ (sym ((parted (rises xs up)).0 k d (omega arith) m))) (λ k d m n. ranked _ c _ (sym ((parted (rises xs up)).1 k d m n)))

@@ -1,11 +1,13 @@
 -- An offer after the search: what the table holds, and what is answered.
-use Rattle.std.proofs.Common.{◌≡◌, ℕ, ◌<◌, Bool, true, false, cond, leb, List, length, get_or, set, is_some, Some, None, sym, refl, ap, ◌∙◌}
+use Rattle.std.proofs.Common.{◌≡◌, ℕ, ◌<◌, Bool, true, false, cond, leb, List, length, get_or, set, is_some, Some, None, Ok, Err, sym, refl, ap, ◌∙◌, length-set}
 use Rattle.std.specs.List.{insert}
+use Rattle.arrayvec.specs.ArrayVec.{ArrayVec, with_items}
+use Rattle.arrayvec.proofs.ArrayVecLemmas.{items-with_items}
 use Rattle.std.proofs.lemmas.List.{set-get_or}
 use Rattle.std.proofs.lemmas.Bool.{cond-true, cond-false, cond_both, lt-leb}
-use Rattle.state_vector.specs.declared.keyed.Outcome.TheVariants.{Inserted, Replaced, Kept, Full}
-use Rattle.state_vector.specs.Tables.{all_below, ascends, held, better, entered, full, offered, answer, outcome, Found, Missing}
-use Rattle.state_vector.proofs.Entering.{entered_new, entered_held, ascends_entered, below_entered}
+use Rattle.state_vector.specs.declared.keyed.Outcome.TheVariants.{Inserted, Replaced, Kept}
+use Rattle.state_vector.specs.Tables.{ascends, held, better, entered, full, offered, answer, outcome, Found, Missing}
+use Rattle.state_vector.proofs.Entering.{entered_new, entered_held, ascends_entered}
 
 module _ {E : Type 0} (key : E → ℕ) (above : E → E → Bool) (cap : ℕ) (xs : List E) (e : E) (c : ℕ) (is : c ≡ key e) (i : ℕ) where
   -- where the key is held, all depends on what stands above what
@@ -18,16 +20,16 @@ module _ {E : Type 0} (key : E → ℕ) (above : E → E → Bool) (cap : ℕ) (
         cond-false (full key cap xs e) xs (entered key above xs e) (ap (λ o. cond (is_some o) false (leb cap (length xs))) holds)
         ∙ entered_held key above xs e i d (rw is at h.0) h.1 (h.3 d ∙ is)
 
-    pub replaces : above e (get_or xs i d) ≡ true → (offered key above cap xs e ≡ set xs i e) × (outcome key above cap xs e ≡ Replaced)
+    pub replaces : above e (get_or xs i d) ≡ true → (offered key above cap xs e ≡ set xs i e) × (outcome key above cap xs e ≡ Ok Replaced)
     replaces t = (
       into ∙ ap (set xs i) (cond-true (above e (get_or xs i d)) e (get_or xs i d) t),
-      ap (λ o. answer above (leb cap (length xs)) o e) holds ∙ cond-true (above e (get_or xs i d)) Replaced Kept t,
+      ap (λ o. answer above (leb cap (length xs)) o e) holds ∙ ap Ok (cond-true (above e (get_or xs i d)) Replaced Kept t),
     )
 
-    pub keeps : above e (get_or xs i d) ≡ false → (offered key above cap xs e ≡ xs) × (outcome key above cap xs e ≡ Kept)
+    pub keeps : above e (get_or xs i d) ≡ false → (offered key above cap xs e ≡ xs) × (outcome key above cap xs e ≡ Ok Kept)
     keeps f = (
       into ∙ ap (set xs i) (cond-false (above e (get_or xs i d)) e (get_or xs i d) f) ∙ set-get_or xs i d,
-      ap (λ o. answer above (leb cap (length xs)) o e) holds ∙ cond-false (above e (get_or xs i d)) Replaced Kept f,
+      ap (λ o. answer above (leb cap (length xs)) o e) holds ∙ ap Ok (cond-false (above e (get_or xs i d)) Replaced Kept f),
     )
 
   -- where the key is absent, all depends on whether a place is left
@@ -35,20 +37,17 @@ module _ {E : Type 0} (key : E → ℕ) (above : E → E → Bool) (cap : ℕ) (
     none : held key (key e) xs ≡ None
     none = ap (λ n. held key n xs) (sym is) ∙ h.2
 
-    pub comes_in : (n : ℕ) → length xs ≡ n → (offered key above cap xs e ≡ cond (leb cap n) xs (insert xs i e)) × (outcome key above cap xs e ≡ cond (leb cap n) Full Inserted)
+    pub comes_in : (n : ℕ) → length xs ≡ n → (offered key above cap xs e ≡ cond (leb cap n) xs (insert xs i e)) × (outcome key above cap xs e ≡ cond (leb cap n) (Err (record {})) (Ok Inserted))
     comes_in n long = (
       ap (λ o. cond (cond (is_some o) false (leb cap (length xs))) xs (entered key above xs e)) none
           ∙ ap (λ ys. cond (leb cap (length xs)) xs ys) (entered_new key above xs e none ∙ ap (λ n. insert xs n e) (sym (rw is at h.0)))
           ∙ ap (λ n. cond (leb cap n) xs (insert xs i e)) long,
-      ap (λ o. answer above (leb cap (length xs)) o e) none ∙ ap (λ n. cond (leb cap n) Full Inserted) long,
+      ap (λ o. answer above (leb cap (length xs)) o e) none ∙ ap (λ n. cond (leb cap n) (Err (record {})) (Ok Inserted)) long,
     )
 
 module _ {E : Type 0} (key : E → ℕ) (above : E → E → Bool) (cap : ℕ) (xs : List E) (e : E) where
   pub ascends_offered : ascends key xs ≡ true → ascends key (offered key above cap xs e) ≡ true
   ascends_offered up = cond_both (full key cap xs e) xs (entered key above xs e) (λ zs. ascends key zs ≡ true) (λ _. up) (λ _. ascends_entered key above xs e up)
-
-  pub below_offered : (n : ℕ) → key e < n → all_below key n xs ≡ true → all_below key n (offered key above cap xs e) ≡ true
-  below_offered n l h = cond_both (full key cap xs e) xs (entered key above xs e) (λ zs. all_below key n zs ≡ true) (λ _. h) (λ _. below_entered key above n xs e l h)
 
   -- where a place is left, an offer is an entry that comes in
   pub not_full : length xs < cap → full key cap xs e ≡ false
@@ -56,3 +55,11 @@ module _ {E : Type 0} (key : E → ℕ) (above : E → E → Bool) (cap : ℕ) (
 
   pub with_room : length xs < cap → offered key above cap xs e ≡ entered key above xs e
   with_room l = cond-false (full key cap xs e) xs (entered key above xs e) (not_full l)
+
+  -- what an offer leaves ascends
+  pub ascends_after : (ys : List E) → ys ≡ offered key above cap xs e → ascends key xs ≡ true → ascends key ys ≡ true
+  ascends_after ys is up = ap (ascends key) is ∙ ascends_offered up
+
+-- a write of one entry through the slice of a vector, whose entries are xs
+pub put_over : {E : Type 0} (v : ArrayVec E) (s xs : List E) (i : ℕ) (e : E) → s ≡ v.items → v.items ≡ xs → (with_items v (set s i e)).items ≡ set xs i e
+put_over v s xs i e shown is = items-with_items v (set s i e) (length-set s i e ∙ ap length shown) ∙ ap (λ ys. set ys i e) (shown ∙ is)

@@ -4,12 +4,12 @@
 --   ascends    each entry's key is above those of all before it
 --   place      how many entries come before a key
 --   held       the entry of a key
---   lent       what a look-up that borrows answers, by the entry it points to
 --   Found      what a search knows of the place where it met the key
 --   Missing    what it knows of the place where the key would go
 --   better     of a newcomer and the held entry, the one that stays
 --   raised     the same where perhaps nothing was held
 --   always     every newcomer stands above
+--   AnswersBy   each answer of a closure is what stands above what
 --   entered    the table after an entry came in
 --   full       whether a table turns an entry away
 --   offered    the table after an offer, where it has so many places
@@ -28,21 +28,20 @@
 --   OffersKeepTheHighest   what a row of offers leaves
 --   OrdersAgree       rows with the same entries leave the same table
 --   UpdatesKeepTheLatest   what a row of entries leaves that always take their place
-use Rattle.std.specs.Prelude.{◌≡◌, ℕ, suc, ◌<◌, ◌≤◌, Bool, true, false, cond, ◌&&◌, ◌||◌, List, [], ◌∷◌, length, is_some, Some, None, Option, ◌==◌, nat_le, nat_lt, slice_index_or}
+use Rattle.std.specs.Prelude.{◌≡◌, ℕ, suc, ◌<◌, ◌≤◌, Bool, true, false, cond, ◌&&◌, ◌||◌, List, [], ◌∷◌, find, length, is_some, Some, None, Ok, Err, Option, Result, ◌==◌, nat_le, nat_lt, slice_index_or}
 use Rattle.std.specs.Borrow.{Bor}
-use Rattle.std.specs.List.{ContainsAt as Has}
+use Rattle.std.specs.List.{ContainsAt as Has, list_all}
 use Rattle.state_vector.specs.declared.keyed.Outcome.{Outcome}
-use Rattle.state_vector.specs.declared.keyed.Outcome.TheVariants.{Inserted, Replaced, Kept, Full}
+use Rattle.state_vector.specs.declared.keyed.Outcome.TheVariants.{Inserted, Replaced, Kept}
+use Rattle.state_vector.specs.declared.keyed.TableFull.{TableFull}
 
 -- each key is above n
 abbrev pub all_above : {E : Type 0} → (E → ℕ) → ℕ → List E → Bool
-all_above key n [] = true
-all_above key n (x ∷ xs) = nat_lt n (key x) && all_above key n xs
+all_above key n xs = list_all (λ x. nat_lt n (key x)) xs
 
 -- each key is below n
 abbrev pub all_below : {E : Type 0} → (E → ℕ) → ℕ → List E → Bool
-all_below key n [] = true
-all_below key n (x ∷ xs) = nat_lt (key x) n && all_below key n xs
+all_below key n xs = list_all (λ x. nat_lt (key x) n) xs
 
 -- each entry's key is above those of all before it
 abbrev pub ascends : {E : Type 0} → (E → ℕ) → List E → Bool
@@ -56,13 +55,7 @@ place key c (x ∷ xs) = cond (nat_lt (key x) c) (suc (place key c xs)) 0
 
 -- the entry of the key c
 abbrev pub held : {E : Type 0} → (E → ℕ) → ℕ → List E → Option E
-held key c [] = None
-held key c (x ∷ xs) = cond (key x == c) (Some x) (held key c xs)
-
--- what a look-up that borrows answers, by the entry it points to
-abbrev pub lent : {E : Type 0} → Option (Bor E) → Option E
-lent None = None
-lent (Some r) = Some r.now
+held key c xs = find (λ x. key x == c) xs
 
 -- what a search knows of the place where it met the key
 abbrev pub Found : {E : Type 0} → (E → ℕ) → ℕ → List E → ℕ → Type 0
@@ -85,6 +78,10 @@ raised above (Some x) e = better above e x
 abbrev pub always : {E : Type 0} → E → E → Bool
 always e x = true
 
+-- each answer to a newcomer and a held entry is what above gives
+abbrev pub AnswersBy : {E : Type 0} → (Bor E → Bor E → Bool → Type 0) → (E → E → Bool) → Type 0
+AnswersBy {E} answers above = (x y : Bor E) (b : Bool) → answers x y b → b ≡ above x.now y.now
+
 -- the table after e came in: inserted where its key is absent, in the place of the held one where it stands above that
 abbrev pub entered : {E : Type 0} → (E → ℕ) → (E → E → Bool) → List E → E → List E
 entered key above [] e = e ∷ []
@@ -103,12 +100,12 @@ abbrev pub updated : {E : Type 0} → (E → ℕ) → ℕ → List E → E → L
 updated key = offered key always
 
 -- what is answered to e where nothing or an entry is held, and perhaps no place is left
-abbrev pub answer : {E : Type 0} → (E → E → Bool) → Bool → Option E → E → Outcome
-answer above none None e = cond none Full Inserted
-answer above none (Some h) e = cond (above e h) Replaced Kept
+abbrev pub answer : {E : Type 0} → (E → E → Bool) → Bool → Option E → E → Result Outcome TableFull
+answer above none None e = cond none (Err (record {})) (Ok Inserted)
+answer above none (Some h) e = Ok (cond (above e h) Replaced Kept)
 
 -- what a table of cap places answers to an offer
-abbrev pub outcome : {E : Type 0} → (E → ℕ) → (E → E → Bool) → ℕ → List E → E → Outcome
+abbrev pub outcome : {E : Type 0} → (E → ℕ) → (E → E → Bool) → ℕ → List E → E → Result Outcome TableFull
 outcome key above cap xs e = answer above (nat_le cap (length xs)) (held key (key e) xs) e
 
 -- the table after a row of entries came in, one after another

@@ -5,13 +5,13 @@
 --   tabled          the table that entries make
 --   tabled_after     the table that the entries of a reading make, beside those already held
 --   vector          the table of a vector, read
---   table_in         what a reader of a table answers, by the entries in use
 --   clock_in         the clock of a held entry
 --   clock_of         the clock of a client
 --   takes           what a vector answers to an entry
 --   taken           a vector's table after an entry came to it
 --   VectorsHoldTheLast   what is read, in terms of the entries in the bytes
-use Rattle.std.specs.Prelude.{◌≡◌, ℕ, ◌-◌, ◌^◌, true, cond, List, [], Some, None, Ok, Err, Option, Result, nat_lt}
+use Rattle.std.specs.Prelude.{◌≡◌, ℕ, ◌-◌, ◌^◌, true, cond, List, [], Ok, Err, Option, Result, nat_lt}
+use Rattle.std.specs.Option.{option_map}
 use Rattle.encoding.specs.declared.fault.WireFault.{WireFault}
 use Rattle.encoding.specs.declared.fault.WireFault.TheVariants.{InvalidClientId, TooManyEntries}
 use Rattle.encoding.specs.Entries.{entries}
@@ -46,15 +46,9 @@ tabled_after xs (Err f) = Err f
 abbrev pub vector : List ℕ → Result (List VectorEntry) WireFault
 vector s = tabled_after [] (vector_entries s)
 
--- what a reader of a table answers, by the entries in use
-abbrev pub table_in : {V : Type 0} → (V → List VectorEntry) → Result V WireFault → Result (List VectorEntry) WireFault
-table_in used (Ok v) = Ok (used v)
-table_in used (Err f) = Err f
-
 -- the clock of a held entry
 abbrev pub clock_in : Option VectorEntry → Option ℕ
-clock_in None = None
-clock_in (Some e) = Some e.clock
+clock_in o = option_map (λ e. e.clock) o
 
 -- the clock of the client c; none where it is absent
 abbrev pub clock_of : ℕ → List VectorEntry → Option ℕ

@@ -1,9 +1,11 @@
-// Tables of entries that ascend by client id: found, inserted and replaced in a slice whose first `len` entries are in use.
-ghost use Rattle.std.specs.Prelude.{◌≡◌, ℕ, ◌+◌, ◌<◌, ◌≤◌, true, length, take, drop, if◌then◌else◌, MatchResult, nat_le, slice_set};
-ghost use Rattle.std.specs.List.{insert};
-ghost use Rattle.state_vector.specs.Tables.{ascends, held, lent, always, updated, outcome, Found, Missing};
+// Tables of entries that ascend by client id, at most `N` of them, found, inserted and replaced in place.
+ghost use Rattle.std.specs.Prelude.{◌≡◌, ℕ, ◌≤◌, Bool, true, [], length, insert, nat_le, if◌then◌else◌, MatchResult};
+ghost use Rattle.std.specs.Option.{option_copied};
+ghost use Rattle.state_vector.specs.Tables.{AnswersBy, ascends, held, always, offered, updated, outcome, Found, Missing};
 
-use std::cmp::Ordering;
+use arrayvec::{ArrayVec, CapacityError};
+use encoding::fault::WireFault;
+use std::marker::Model;
 
 // An entry that has a client id.
 pub trait Keyed {
@@ -15,7 +17,7 @@ pub trait Keyed {
         ensures { result ≡ key self.now };
 }
 
-// What became of an entry that was brought to a table.
+// What became of an entry that came to a table.
 #[derive(Clone, Copy, Debug, PartialEq, Eq)]
 pub enum Outcome {
     // its client was absent, and it was inserted
@@ -24,33 +26,37 @@ pub enum Outcome {
     Replaced,
     // the entry held stays
     Kept,
-    // its client was absent, and no place was left: nothing changed
-    Full,
+}
+
+// Why an entry is turned away: its client was absent, and no place was left. Nothing changed.
+#[derive(Clone, Copy, Debug, PartialEq, Eq)]
+pub struct TableFull;
+
+impl From<TableFull> for WireFault {
+    ghost use Rattle.std.specs.Prelude.{◌≡◌};
+    ghost use Rattle.encoding.specs.declared.fault.WireFault.TheVariants.{TooManyEntries};
+
+    ghost from_gives = { λ _ r. r ≡ TooManyEntries };
+
+    // On the wire a full table is one entry too many.
+    fn from(_full: TableFull) -> WireFault {
+        WireFault::TooManyEntries
+    }
 }
 
 // The place of the client's entry, or else the place where it would go; at most seven comparisons among 64.
-// A search by halves needs that the entries ascend: the owner's invariant gives it.
+// A search by halves needs that the entries ascend: a table's do.
 pub fn find<E: Keyed>(entries: &[E], client: u64) -> Result<usize, usize>
     requires { ascends E.Keyed.key entries.now ≡ true }
     ensures { MatchResult result (Found E.Keyed.key client entries.now) (Missing E.Keyed.key client entries.now) }
 {
-    let mut low = 0;
-    let mut high = entries.len();
-    while low < high {
-        let mid = low + (high - low) / 2;
-        match entries[mid].client().cmp(&client) {
-            Ordering::Less => low = mid + 1,
-            Ordering::Equal => return Ok(mid),
-            Ordering::Greater => high = mid,
-        }
-    }
-    Err(low)
+    entries.binary_search_by_key(&client, |e| e.client())
 }
 
-// The client's entry, where the table has one. That the entries ascend is the owner's invariant.
+// The client's entry, where the entries have one.
 pub fn look_up<E: Keyed>(entries: &[E], client: u64) -> Option<&E>
     requires { ascends E.Keyed.key entries.now ≡ true }
-    ensures { lent result ≡ held E.Keyed.key client entries.now }
+    ensures { option_copied result ≡ held E.Keyed.key client entries.now }
 {
     match find(entries, client) {
         Ok(at) => Some(&entries[at]),
@@ -58,88 +64,131 @@ pub fn look_up<E: Keyed>(entries: &[E], client: u64) -> Option<&E>
     }
 }
 
-// Shifts the entries in use from `at` on up by one, and puts `e` at `at`.
-// The room and the place are known to the caller, who has just searched the table.
-pub(crate) fn insert<E: Copy>(entries: &mut [E], len: usize, at: usize, e: E)
-    requires fits { len < length entries.old }
-    requires within { at ≤ len }
-    ensures used { take (len + 1) entries.new ≡ insert (take len entries.old) at e }
-    ensures rest { drop (len + 1) entries.new ≡ drop (len + 1) entries.old }
-{
-    entries.copy_within(at..len, at + 1);
-    entries[at] = e;
-}
-
-// Puts a newcomer in the place of the entry at `at`. The place is known to the caller, who has just found it.
-pub(crate) fn replace<E: Copy>(entries: &mut [E], len: usize, at: usize, newcomer: E)
-    requires fits { len ≤ length entries.old }
-    requires within { at < len }
-    ensures used { take len entries.new ≡ slice_set (take len entries.old) at newcomer }
-    ensures rest { drop len entries.new ≡ drop len entries.old }
-{
-    entries[at] = newcomer;
-}
-
-// A table over a slice: its first `len` entries are in use and ascend by client id, the others are free places.
-// Whoever owns the slice has both as an invariant; a table is made over it for one call.
-#[derive(Drop)]
-pub struct Table<'a, E> {
-    pub entries: &'a mut [E],
-    pub len: usize,
-}
-
-impl<E: Keyed> Table<'_, E> {
-    // The place of the client's entry, or else the place where it would go.
-    pub fn find(&self, client: u64) -> Result<usize, usize>
-        requires fits { self.now.len ≤ length self.now.entries.now }
-        requires ascends { ascends E.Keyed.key (take self.now.len self.now.entries.now) ≡ true }
-        ensures { MatchResult result (Found E.Keyed.key client (take self.now.len self.now.entries.now)) (Missing E.Keyed.key client (take self.now.len self.now.entries.now)) }
-    {
-        find(&self.entries[0..self.len], client)
+impl<E: Drop> From<CapacityError<E>> for TableFull {
+    // A vector that has no place for an entry.
+    fn from(_full: CapacityError<E>) -> TableFull {
+        TableFull
     }
 }
 
-impl<E: Keyed + Copy> Table<'_, E> {
-    // Inserts an entry where the search for its client ended, if a place is left.
-    pub(crate) fn insert_at(&mut self, at: usize, e: E) -> Outcome
-        requires fits { self.old.len ≤ length self.old.entries.now }
-        requires within { at ≤ self.old.len }
-        ensures answer { result ≡ (if nat_le (length self.old.entries.now) self.old.len then Outcome.Full else Outcome.Inserted) }
-        ensures used { take self.new.len self.new.entries.now ≡ (if nat_le (length self.old.entries.now) self.old.len then take self.old.len self.old.entries.now else insert (take self.old.len self.old.entries.now) at e) }
-        ensures rest { drop self.new.len self.new.entries.now ≡ drop self.new.len self.old.entries.now }
-        ensures fits { self.new.len ≤ length self.new.entries.now }
-        ensures places { length self.new.entries.now ≡ length self.old.entries.now }
-        ensures named { self.new.entries.ghost_name ≡ self.old.entries.ghost_name }
+// Inserts an entry where the search for its client ended, if a place is left.
+fn insert_at<E: Drop, const N: usize>(
+    entries: &mut ArrayVec<E, N>,
+    at: usize,
+    e: E,
+) -> Result<Outcome, TableFull>
+    requires { at ≤ length entries.old.items }
+    ensures answer { result ≡ (if nat_le N (length entries.old.items) then Err (record {}) else Ok Outcome.Inserted) }
+    ensures used { entries.new.items ≡ (if nat_le N (length entries.old.items) then entries.old.items else insert entries.old.items at e) }
+{
+    entries.try_insert(at, e)?;
+    Ok(Outcome::Inserted)
+}
+
+// At most `N` entries that ascend by client id, which lie in the value itself: nothing is allocated.
+#[derive(Drop)]
+pub struct Table<E: Keyed, const N: usize> {
+    entries: ArrayVec<E, N>,
+}
+
+impl<E: Keyed, const N: usize> Model for Table<E, N> {
+    ghost use Rattle.std.specs.Prelude.{◌≡◌, true, List};
+    ghost use Rattle.state_vector.specs.Tables.{ascends};
+
+    ghost Value = { List E };
+
+    ghost view = { λ t. t.entries.items };
+
+    ghost invariant = { λ t. ascends E.key t.entries.items ≡ true };
+}
+
+impl<E: Keyed + Default, const N: usize> Table<E, N> {
+    // A table without entries.
+    pub fn new() -> Table<E, N>
+        ensures { result ≡ [] }
     {
-        let len = self.len;
-        if len < self.entries.len() {
-            insert(self.entries, len, at, e);
-            self.len = len + 1;
-            Outcome::Inserted
-        } else {
-            Outcome::Full
+        Table {
+            entries: ArrayVec::new(),
+        }
+    }
+}
+
+impl<E: Keyed, const N: usize> Table<E, N> {
+    // The entries, ascending by client id.
+    pub fn entries(&self) -> &[E]
+        ensures all { result.now ≡ self.now }
+        ensures few { length result.now ≤ N }
+        ensures ascends { ascends E.Keyed.key result.now ≡ true }
+    {
+        self.entries.as_slice()
+    }
+
+    // How many entries it has.
+    pub fn len(&self) -> usize
+        ensures count { result ≡ length self.now }
+        ensures few { result ≤ N }
+    {
+        self.entries.len()
+    }
+
+    // The place of the client's entry, or else the place where it would go.
+    pub fn find(&self, client: u64) -> Result<usize, usize>
+        ensures { MatchResult result (Found E.Keyed.key client self.now) (Missing E.Keyed.key client self.now) }
+    {
+        find(self.entries(), client)
+    }
+
+    // The client's entry, where the table has one.
+    pub fn get(&self, client: u64) -> Option<&E>
+        ensures { option_copied result ≡ held E.Keyed.key client self.now }
+    {
+        look_up(self.entries(), client)
+    }
+}
+
+impl<E: Keyed + Drop, const N: usize> Table<E, N> {
+    // Brings an entry: inserted where its client is absent, it takes the place of the one held only if it stands above it; with no place left nothing changes.
+    // What stands above what the closure answers, and the clauses hold of each function that gives its answers.
+    pub(crate) fn bring<F: Fn(&E, &E) -> bool>(
+        &mut self,
+        e: E,
+        stands_above: F,
+    ) -> Result<Outcome, TableFull>
+        requires { F.IsAlwaysCallable stands_above }
+        ensures answer { (above : E → E → Bool) → AnswersBy (F.post stands_above) above → result ≡ outcome E.Keyed.key above N self.old e }
+        ensures used { (above : E → E → Bool) → AnswersBy (F.post stands_above) above → self.new ≡ offered E.Keyed.key above N self.old e }
+    {
+        match self.find(e.client()) {
+            Ok(at) => {
+                if stands_above(&e, &self.entries[at]) {
+                    self.entries[at] = e;
+                    Ok(Outcome::Replaced)
+                } else {
+                    Ok(Outcome::Kept)
+                }
+            }
+            Err(at) => insert_at(&mut self.entries, at, e),
         }
     }
 
     // Brings an entry that takes the place of its client's, whatever that is; with no place left nothing changes.
-    pub fn put(&mut self, e: E) -> Outcome
-        requires fits { self.old.len ≤ length self.old.entries.now }
-        requires ascends { ascends E.Keyed.key (take self.old.len self.old.entries.now) ≡ true }
-        ensures answer { result ≡ outcome E.Keyed.key always (length self.old.entries.now) (take self.old.len self.old.entries.now) e }
-        ensures used { take self.new.len self.new.entries.now ≡ updated E.Keyed.key (length self.old.entries.now) (take self.old.len self.old.entries.now) e }
-        ensures rest { drop self.new.len self.new.entries.now ≡ drop self.new.len self.old.entries.now }
-        ensures fits { self.new.len ≤ length self.new.entries.now }
-        ensures ascends { ascends E.Keyed.key (take self.new.len self.new.entries.now) ≡ true }
-        ensures places { length self.new.entries.now ≡ length self.old.entries.now }
-        ensures named { self.new.entries.ghost_name ≡ self.old.entries.ghost_name }
+    pub fn put(&mut self, e: E) -> Result<Outcome, TableFull>
+        ensures answer { result ≡ outcome E.Keyed.key always N self.old e }
+        ensures used { self.new ≡ updated E.Keyed.key N self.old e }
     {
-        let len = self.len;
-        match self.find(e.client()) {
-            Ok(at) => {
-                replace(self.entries, len, at, e);
-                Outcome::Replaced
-            }
-            Err(at) => self.insert_at(at, e),
-        }
+        self.bring(e, |_, _| true)
+    }
+}
+
+impl<E: Keyed + Copy + Default, const N: usize> Table<E, N> {
+    // A copy of the table, which cannot fail: where entries are copied, nothing is allocated.
+    pub fn copy(&self) -> Table<E, N>
+        ensures { result ≡ self.now }
+    {
+        let mut entries = ArrayVec::new();
+        let Ok(()) = entries.try_extend_from_slice(self.entries()) else {
+            unreachable()
+        };
+        Table { entries }
     }
 }

@@ -1,8 +1,8 @@
 // What stands above what: a newcomer takes the place of the entry held exactly when it stands above it.
-ghost use Rattle.std.specs.Prelude.{◌≡◌, ◌≤◌, Bool, true, false, ◌||◌, length, take, drop};
-ghost use Rattle.state_vector.specs.Tables.{ascends, offered, outcome};
+ghost use Rattle.std.specs.Prelude.{◌≡◌, Bool, true, false, ◌||◌};
+ghost use Rattle.state_vector.specs.Tables.{offered, outcome};
 
-use crate::keyed::{Keyed, Outcome, Table, replace};
+use crate::keyed::{Keyed, Outcome, Table, TableFull};
 
 // An entry that stands above another of its client, or does not.
 pub trait Standing: Keyed {
@@ -23,30 +23,12 @@ pub trait Standing: Keyed {
     ghost third: { (x y z : Self) → above x y ≡ true → (above x z || above z y) ≡ true };
 }
 
-impl<E: Standing + Copy> Table<'_, E> {
+impl<E: Standing + Drop, const N: usize> Table<E, N> {
     // Offers an entry: inserted where its client is absent, it replaces the one held only if it stands above it; with no place left nothing changes.
-    pub fn offer(&mut self, e: E) -> Outcome
-        requires fits { self.old.len ≤ length self.old.entries.now }
-        requires ascends { ascends E.Keyed.key (take self.old.len self.old.entries.now) ≡ true }
-        ensures answer { result ≡ outcome E.Keyed.key E.Standing.above (length self.old.entries.now) (take self.old.len self.old.entries.now) e }
-        ensures used { take self.new.len self.new.entries.now ≡ offered E.Keyed.key E.Standing.above (length self.old.entries.now) (take self.old.len self.old.entries.now) e }
-        ensures rest { drop self.new.len self.new.entries.now ≡ drop self.new.len self.old.entries.now }
-        ensures fits { self.new.len ≤ length self.new.entries.now }
-        ensures ascends { ascends E.Keyed.key (take self.new.len self.new.entries.now) ≡ true }
-        ensures places { length self.new.entries.now ≡ length self.old.entries.now }
-        ensures named { self.new.entries.ghost_name ≡ self.old.entries.ghost_name }
+    pub fn offer(&mut self, e: E) -> Result<Outcome, TableFull>
+        ensures answer { result ≡ outcome E.Keyed.key E.Standing.above N self.old e }
+        ensures used { self.new ≡ offered E.Keyed.key E.Standing.above N self.old e }
     {
-        let len = self.len;
-        match self.find(e.client()) {
-            Ok(at) => {
-                if e.stands_above(&self.entries[at]) {
-                    replace(self.entries, len, at, e);
-                    Outcome::Replaced
-                } else {
-                    Outcome::Kept
-                }
-            }
-            Err(at) => self.insert_at(at, e),
-        }
+        self.bring(e, |e, held| e.stands_above(held))
     }
 }

@@ -1,16 +1,15 @@
 // Short examples, and an entry type as presence has them, which the order law has to fit.
-ghost use Rattle.std.specs.Prelude.{◌≡◌, ◌≤◌, true, not, ◌&&◌, ◌||◌, take, ◌==◌, nat_lt};
-ghost use Rattle.state_vector.specs.Tables.{ascends, offered, outcome};
+ghost use Rattle.std.specs.Prelude.{not, ◌&&◌, ◌||◌, ◌==◌, nat_lt};
 ghost use Rattle.std.proofs.Common.{rules};
 
-use crate::keyed::{Keyed, Outcome, Table};
+use crate::keyed::{Keyed, Outcome, Table, TableFull};
 use crate::standing::Standing;
 use crate::vector::{StateVector, VectorEntry, check_vector};
 use encoding::fault::WireFault;
 use std::test::Fail;
 
 // An entry as presence has them: a higher clock stands above, and at the same clock one that is gone above one that is live.
-#[derive(Clone, Copy)]
+#[derive(Clone, Copy, Default)]
 struct Presence {
     client: u64,
     clock: u32,
@@ -41,44 +40,6 @@ impl Standing for Presence {
     }
 }
 
-// An owner of two places, which hands them to a table for one call.
-#[derive(Drop)]
-struct Pair {
-    entries: [Presence; 2],
-    len: usize,
-    ghost fits: { len ≤ 2 },
-    ghost ascending: { ascends (λ e. e.client) (take len entries) ≡ true },
-}
-
-impl Pair {
-    // Two free places.
-    fn new() -> Pair {
-        let none = Presence {
-            client: 0,
-            clock: 0,
-            live: false,
-        };
-        Pair {
-            entries: [none; 2],
-            len: 0,
-        }
-    }
-
-    // Offers an entry to the table over the two.
-    fn offer(&mut self, e: Presence) -> Outcome
-        ensures answer { result ≡ outcome (λ e. e.client) (λ x y. nat_lt y.clock x.clock || (x.clock == y.clock && (not x.live && y.live))) 2 (take self.old.len self.old.entries) e }
-        ensures used { take self.new.len self.new.entries ≡ offered (λ e. e.client) (λ x y. nat_lt y.clock x.clock || (x.clock == y.clock && (not x.live && y.live))) 2 (take self.old.len self.old.entries) e }
-    {
-        let mut table = Table {
-            entries: &mut self.entries,
-            len: self.len,
-        };
-        let r = table.offer(e);
-        self.len = table.len;
-        r
-    }
-}
-
 // An entry of a client at a clock.
 fn seen_at(client: u64, clock: u32, live: bool) -> Presence {
     Presence {
@@ -91,16 +52,16 @@ fn seen_at(client: u64, clock: u32, live: bool) -> Presence {
 // A tie is kept, gone stands above live, and a third client finds no place.
 #[test]
 fn offers(rt: HostRuntime) {
-    let mut pair = Pair::new();
-    assert_eq!(rt; pair.offer(seen_at(7, 1, true)), Outcome::Inserted);
-    assert_eq!(rt; pair.offer(seen_at(3, 1, true)), Outcome::Inserted);
-    assert_eq!(rt; pair.offer(seen_at(5, 9, true)), Outcome::Full);
-    assert_eq!(rt; pair.offer(seen_at(7, 1, true)), Outcome::Kept);
-    assert_eq!(rt; pair.offer(seen_at(7, 1, false)), Outcome::Replaced);
-    assert_eq!(rt; pair.offer(seen_at(7, 1, true)), Outcome::Kept);
-    assert_eq!(rt; pair.offer(seen_at(3, 2, true)), Outcome::Replaced);
-    assert_eq!(rt; pair.len, 2);
-    let [first, second] = pair.entries;
+    let mut pair: Table<Presence, 2> = Table::new();
+    assert_eq!(rt; pair.offer(seen_at(7, 1, true)), Ok(Outcome::Inserted));
+    assert_eq!(rt; pair.offer(seen_at(3, 1, true)), Ok(Outcome::Inserted));
+    assert_eq!(rt; pair.offer(seen_at(5, 9, true)), Err(TableFull));
+    assert_eq!(rt; pair.offer(seen_at(7, 1, true)), Ok(Outcome::Kept));
+    assert_eq!(rt; pair.offer(seen_at(7, 1, false)), Ok(Outcome::Replaced));
+    assert_eq!(rt; pair.offer(seen_at(7, 1, true)), Ok(Outcome::Kept));
+    assert_eq!(rt; pair.offer(seen_at(3, 2, true)), Ok(Outcome::Replaced));
+    assert_eq!(rt; pair.len(), 2);
+    let (first, second) = (pair.entries()[0], pair.entries()[1]);
     assert_eq!(rt; first.client, 3);
     assert_eq!(rt; first.clock, 2);
     assert!(rt; !second.live);

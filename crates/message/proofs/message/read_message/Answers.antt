@@ -1,4 +1,4 @@
-use Rattle.std.proofs.Common.{◌-◌, ◌^◌, ◌<◌, length, get_or, sym, ap, ◌∙◌, arith, rules, ltb-false, ltb-true}
+use Rattle.std.proofs.Common.{◌-◌, ◌^◌, ◌<◌, length, get_or, sym, ap, ◌∙◌, arith, ltb-false, ltb-true}
 use Rattle.encoding.specs.Reading.{thence}
 use Rattle.encoding.proofs.Numbers.{one_byte}
 use Rattle.message.specs.Message.{body, message}
@@ -11,11 +11,3 @@ returns-in-0-to-127 c =
     let n : 0 < length c.args.s.now = omega (arith, ltb-false) in
     let h : get_or c.args.s.now 0 0 < 128 = omega (arith, ltb-true) in
     c.read_body.ensures ∙ sym (ap (λ r. thence r body) (one_byte 10 (2 ^ 8 - 1) c.args.s.now (omega arith) (omega arith) n h))
-
-pub returns-in_err-tag-in_default : goal.returns-in_err-tag-in_default
-unfolding message
-returns-in_err-tag-in_default c = search rules
-
-pub returns-in_ok-tag-in_default : goal.returns-in_ok-tag-in_default
-unfolding message
-returns-in_ok-tag-in_default c = search rules

@@ -15,5 +15,5 @@ returns g c =
       back = λ bs e. reads_back t bs c.check.ensures.sound e;
     }
 
-pub returns-in_err-send : goal.returns-in_err-send
-returns-in_err-send g c = record { written = search rules; back = λ bs e. reads_back (g.M.Outgoing.told c.args.m.now) bs c.check.ensures.sound e }
+pub returns-in_err-send-clause-back : goal.returns-in_err-send-clause-back
+returns-in_err-send-clause-back g c = λ bs e. reads_back (g.M.Outgoing.told c.args.m.now) bs c.check.ensures.sound e

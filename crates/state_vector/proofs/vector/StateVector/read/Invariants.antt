@@ -1,8 +1,8 @@
-use Rattle.std.proofs.Common.{◌≡◌, ◌-◌, ◌≤◌, [], length, take}
+use Rattle.std.proofs.Common.{◌≡◌, ◌+◌, ◌≤◌, length}
 use Rattle.encoding.specs.Entries.{entries}
-use Rattle.state_vector.specs.Vector.{vector_entry, tabled_after}
+use Rattle.state_vector.specs.Vector.{vector, vector_entry, tabled_after}
 use Rattle.state_vector.proofs.vector.StateVector.read.Given as goal
 
--- what is left of the entries makes, beside those held, what all of them make
-abbrev pub invariant-loop-i : goal.invariant-loop-i
-invariant-loop-i l = (length (take l.v.len l.v.entries) ≤ l._i) × (tabled_after [] (entries vector_entry l.count l.initial.rest) ≡ tabled_after (take l.v.len l.v.entries) (entries vector_entry (l.count - l._i) l.rest))
+-- the entries still due have places, and make, beside those held, the whole vector
+abbrev pub invariant-loop-e : goal.invariant-loop-e
+invariant-loop-e l = (length l.v + l.e-iterator.left ≤ 64) × (vector l.s ≡ tabled_after l.v (entries vector_entry l.e-iterator.left l.e-iterator.rest.now))

@@ -1,7 +1,0 @@
-use Rattle.std.proofs.Common.{take, Ok, filter}
-use Rattle.encoding.specs.Writing.{row_out, Sent}
-use Rattle.encoding.proofs.chosen_out.put_chosen.Given as goal
-
--- those that were taken so far have gone in
-abbrev pub invariant-loop-e : goal.invariant-loop-e
-invariant-loop-e g l = Sent g.S.Sink.room g.S.Sink.step l.initial.sink (Ok (row_out g.E.Entry.out (filter (g.C.Choice.takes l.choice) (take l.e-index l.entries)))) (Ok tt) l.sink
