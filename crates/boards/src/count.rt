@@ -12,7 +12,7 @@ use encoding::var_uint::read_var;
 use state_vector::keyed::Keyed;
 use state_vector::standing::Standing;
 
-// A client, and its count.
+// A client, and its count. Read and written as a vector's entry is, and not one type with it: a count is no clock, for 0 is as if absent and the greater stands above.
 #[derive(Clone, Copy, Debug, Default, PartialEq, Eq)]
 pub struct Count {
     pub client: u64,

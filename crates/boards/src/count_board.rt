@@ -8,19 +8,20 @@ ghost use Rattle.boards.specs.CountBoard.{client_of, outranks, keepable, count_i
 use crate::count::Count;
 use crate::count_update::CountUpdate;
 use encoding::entries::Entries;
+use encoding::read::MAX_ENTRIES;
 use state_vector::keyed::{Table, TableFull};
 
 // Counts that ascend by client, each of a client that can be written and at least 1.
 // Not seen as their list by a model: what a host keeps is within its limit by a law over every value, and of a list alone it does not hold.
 #[derive(Drop)]
 pub struct CountBoard {
-    counts: Table<Count, 64>,
+    counts: Table<Count, MAX_ENTRIES>,
     ghost few: { length counts ≤ 64 },
     ghost sound: { sound client_of keepable counts ≡ true },
 }
 
 impl CountBoard {
-    // A board without counts.
+    // A board without counts. No derived `Default`, which would promise nothing.
     pub fn empty() -> CountBoard
         ensures { result.counts ≡ [] }
     {
@@ -38,7 +39,7 @@ impl CountBoard {
         self.counts.entries()
     }
 
-    // A copy of the board.
+    // A copy of the board; as `Table::copy`, and no `Clone`.
     pub fn copy(&self) -> CountBoard
         ensures { result.counts ≡ self.now.counts }
     {
@@ -68,8 +69,7 @@ impl CountBoard {
         ensures joins { OnOk result (board self.new.counts ≡ gathered client_of outranks keepable (board self.old.counts) (wholly (entries count_in update.entry.count update.entry.counts.now))) }
     {
         for e in Entries::<Count>::new(update.counts, update.count) {
-            let Ok(e) = e else { unreachable() };
-            self.offer(e)?;
+            self.offer(e.unwrap())?;
         }
         Ok(())
     }

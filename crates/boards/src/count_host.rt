@@ -36,6 +36,7 @@ impl DocumentHost for CountBoard {
     }
 
     fn update_len(&self, since: &StateVector) -> usize {
+        // no `unwrap`: that the update fits is shown where it would not
         match Chosen::by(self.counts(), &NewCounts { since }).measure() {
             Ok(len) => len,
             Err(_) => unreachable(),
@@ -49,7 +50,7 @@ impl DocumentHost for CountBoard {
     // Joined in place where it surely fits; else a copy is joined first, and thrown away where the join is too large.
     fn take(&mut self, bytes: &[u8]) -> Result<(), DocumentFault> {
         let update = CountUpdate::read(bytes)?;
-        if self.counts().len() + update.count <= 64 {
+        if self.counts().len() + update.count <= Self::LIMIT as usize {
             self.join(update)?;
             return Ok(());
         }

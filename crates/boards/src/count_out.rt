@@ -8,6 +8,7 @@ use encoding::write::write_var;
 use joined_tables::vector_of::InVector;
 use state_vector::vector::{StateVector, VectorEntry};
 
+// As a vector's entry is written; `Count` says why it is no such entry.
 impl Entry for Count {
     ghost out = { count_out };
 

@@ -1,4 +1,4 @@
-// The two documents that ship: a board of counts, and a board of slots.
+// The count board, a document; of the slot board the definitions and laws, in specs/.
 #![tactic(auto)]
 
 pub mod count;

@@ -19,7 +19,7 @@ pub enum DocumentFault {
 }
 
 impl DocumentFault {
-    // The number under which the fault is known to users.
+    // The number under which the fault is known to users; code takes the fault itself. By a match, as one variant holds a fault.
     pub fn number(self) -> u8
         ensures { result ≡ document_number self }
     {

@@ -1,10 +1,12 @@
 // Entries that stand one after another: an entry says how it is read, and the walk over them is the same for all.
 ghost use Rattle.std.specs.Iterator.{at_most};
-ghost use Rattle.std.specs.Prelude.{◌≡◌, ℕ, List, IfOk};
-ghost use Rattle.encoding.specs.Entries.{entries, past, past_of, verdict, Steps};
+ghost use Rattle.std.specs.Prelude.{◌≡◌, ℕ, ◌≤◌, List, IfOk};
+ghost use Rattle.encoding.specs.Entries.{entries, counted, begun, past, past_of, verdict, Steps};
 ghost use Rattle.encoding.specs.Reading.{Reading, read_as};
 
 use crate::fault::WireFault;
+use crate::read::read_count;
+use crate::var_uint::VarInt;
 use std::marker::PhantomData;
 
 // An entry that can be read; it may hold parts of the input.
@@ -49,6 +51,15 @@ impl<'a, E: Decode<'a>> Entries<'a, E> {
             of: PhantomData,
         }
     }
+
+    // The entries that a count of a width, at the front of the bytes, declares.
+    pub fn read<N: VarInt>(s: &'a [u8]) -> Result<Entries<'a, E>, WireFault>
+        ensures due { begun (λ w. entries E.Decode.entry w.left w.rest.now) result ≡ counted E.Decode.entry N.VarInt.BITS s.now }
+        ensures few { IfOk result (λ w. w.left ≤ 64) }
+    {
+        let (left, rest) = read_count::<N>(s)?;
+        Ok(Entries::new(rest, left))
+    }
 }
 
 impl<'a, E: Decode<'a>> Iterator for Entries<'a, E> {
@@ -77,12 +88,12 @@ impl<'a, E: Decode<'a>> Iterator for Entries<'a, E> {
     }
 }
 
-// Whether the bytes begin with `n` entries.
-pub fn check_entries<'a, E: Decode<'a>>(s: &'a [u8], n: usize) -> Result<(), WireFault>
-    ensures { result ≡ verdict (entries E.Decode.entry n s.now) }
+// Whether the bytes begin with a count of a width and so many entries.
+pub fn check_counted<'a, N: VarInt, E: Decode<'a>>(s: &'a [u8]) -> Result<(), WireFault>
+    ensures { result ≡ verdict (counted E.Decode.entry N.VarInt.BITS s.now) }
 {
-    for e in Entries::<E>::new(s, n) {
-        e?;
+    for entry in Entries::<E>::read::<N>(s)? {
+        entry?;
     }
     Ok(())
 }

@@ -18,7 +18,7 @@ pub trait Entry {
         ensures { Sent S.Sink.room S.Sink.step sink.old (Ok (out self.now)) result sink.new };
 }
 
-// A choice among entries.
+// A choice among entries. No closure: what a model shows is a function of the value, and of a closure clauses know a relation.
 pub trait Choice<E> {
     // the entries that it takes
     ghost takes: { Self → E → Bool };
@@ -130,7 +130,7 @@ impl<'a, E: Entry, C: Choice<E>> Chosen<'a, E, C> {
         self.put_counted(sink)
     }
 
-    // A buffer that holds their count and them, whole or not at all.
+    // A buffer that holds their count and them, whole or not at all. Not by `write_buf`, which has its bytes: here they are counted first, and the counter goes on.
     pub fn write_buf<S: Sink>(&self, sink: &mut S) -> Result<(), BufferTooShort>
         ensures { Writes S.Sink.room S.Sink.step sink.old (buffer_out (counted_out E.Entry.out self.now)) (told result) sink.new }
     {

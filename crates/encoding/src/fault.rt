@@ -28,7 +28,7 @@ pub enum WireFault {
 }
 
 impl WireFault {
-    // The number under which the fault is known to users.
+    // The number under which the fault is known to users; code takes the fault itself.
     pub fn number(self) -> u8
         ensures { result ≡ wire_number self }
     {

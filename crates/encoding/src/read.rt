@@ -11,7 +11,7 @@ use crate::var_uint::{VarInt, read_var};
 pub const MAX_CLIENT_ID: u64 = 9007199254740991;
 
 // At most this many entries stand in one vector, update or list.
-pub const MAX_ENTRIES: u64 = 64;
+pub const MAX_ENTRIES: usize = 64;
 
 // At most this many bytes make a presence text.
 pub const MAX_PRESENCE_TEXT: usize = 256;
@@ -41,6 +41,7 @@ pub fn check_text(text: &[u8]) -> Result<(), WireFault>
 }
 
 // The bytes of a text, a part of the input, and the bytes after it.
+// Read, then judged, as a client id and a presence text are: one function for the three would be given reader and judge, and its contract would be longer than they are.
 pub fn read_string(s: &[u8]) -> Result<(&[u8], &[u8]), WireFault>
     ensures { read_as bytes result ≡ text s.now }
 {
@@ -50,6 +51,7 @@ pub fn read_string(s: &[u8]) -> Result<(&[u8], &[u8]), WireFault>
 }
 
 // Whether a number can be a client id.
+// This and `check_count` are one comparison each, and no plainer as one function that is given the bound and the fault.
 pub fn check_client_id(id: u64) -> Result<(), WireFault>
     ensures { result ≡ client_id id }
 {
@@ -74,7 +76,7 @@ pub fn read_client_id(s: &[u8]) -> Result<(u64, &[u8]), WireFault>
 pub fn check_count(n: u64) -> Result<(), WireFault>
     ensures { result ≡ count n }
 {
-    if n <= MAX_ENTRIES {
+    if n <= MAX_ENTRIES as u64 {
         Ok(())
     } else {
         Err(WireFault::TooManyEntries)

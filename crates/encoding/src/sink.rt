@@ -22,16 +22,19 @@ pub trait Sink {
     fn left(&self) -> usize
         ensures { result ≡ room self.now };
 
-    // The byte goes in, or is refused and the sink stays as it is.
-    fn put(&mut self, b: u8) -> Result<(), BufferTooShort>
-        ensures { Put room step self.old (b ∷ []) result self.new };
-
     // The bytes go in whole, or are refused and the sink stays as it is.
     fn put_all(&mut self, bytes: &[u8]) -> Result<(), BufferTooShort>
         ensures { Put room step self.old bytes.now result self.new };
+
+    // The byte goes in, or is refused and the sink stays as it is.
+    fn put(&mut self, b: u8) -> Result<(), BufferTooShort>
+        ensures { Put room step self.old (b ∷ []) result self.new }
+    {
+        self.put_all(&[b])
+    }
 }
 
-// Counts the bytes, up to a limit.
+// Counts the bytes, up to a limit; it has no buffer that a length would lie beside.
 #[derive(Clone, Copy, Debug, PartialEq, Eq)]
 pub struct Counter {
     pub count: usize,
@@ -48,27 +51,17 @@ impl Sink for Counter {
         self.limit.saturating_sub(self.count)
     }
 
-    // One more is counted, whatever byte it is.
-    fn put(&mut self, _b: u8) -> Result<(), BufferTooShort> {
-        if self.count >= self.limit {
-            return Err(BufferTooShort);
-        }
-        self.count += 1;
-        Ok(())
-    }
-
     // All are counted at once.
     fn put_all(&mut self, bytes: &[u8]) -> Result<(), BufferTooShort> {
-        let Counter { count, limit } = *self;
-        if limit.saturating_sub(count) < bytes.len() {
+        if self.left() < bytes.len() {
             return Err(BufferTooShort);
         }
-        self.count = count + bytes.len();
+        self.count += bytes.len();
         Ok(())
     }
 }
 
-// Fills a buffer, from a place on.
+// Fills a buffer, from a place on. Not the slice that is left: what is promised of writing speaks of the whole buffer.
 #[derive(Drop)]
 pub struct Filler<'a> {
     pub out: &'a mut [u8],
@@ -83,17 +76,6 @@ impl Sink for Filler<'_> {
     // What is left up to the end of the buffer.
     fn left(&self) -> usize {
         self.out.len().saturating_sub(self.at)
-    }
-
-    // The byte goes to the place, which moves on.
-    fn put(&mut self, b: u8) -> Result<(), BufferTooShort> {
-        let at = self.at;
-        if at >= self.out.len() {
-            return Err(BufferTooShort);
-        }
-        self.out[at] = b;
-        self.at = at + 1;
-        Ok(())
     }
 
     // The bytes are copied in one go; no bytes need no place, even past the end.
@@ -113,6 +95,8 @@ impl Sink for Filler<'_> {
 }
 
 // Bytes into a buffer from a place on, counted before any is put: how many they are.
+// The buffer and the place come apart: they are a filler only once the bytes are counted. `Chosen::fill` and `write_at` of messages count and fill
+// likewise, and stay by themselves: one function for the three would take what is sent as a closure over every sink, which a closure cannot be.
 pub fn fill(out: &mut [u8], at: usize, bytes: &[u8]) -> Result<usize, BufferTooShort>
     ensures { Filled out.old at bytes.now result out.new }
 {

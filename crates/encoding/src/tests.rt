@@ -3,7 +3,7 @@ ghost use Rattle.std.specs.Prelude.{ℕ, ◌^◌, ◌-◌, nat_lt};
 ghost use Rattle.encoding.specs.VarUint.{var_uint};
 ghost use Rattle.encoding.specs.Writing.{shortest};
 
-use crate::entries::{Decode, Entries, check_entries, skip_entries};
+use crate::entries::{Decode, Entries, check_counted, skip_entries};
 use crate::entries_out::{Choice, Chosen, Entry};
 use crate::fault::WireFault;
 use crate::read::*;
@@ -144,7 +144,7 @@ fn texts_by_their_lead_bytes(rt: HostRuntime) {
     }
 }
 
-// Blocks of ASCII are passed over, and what stands after them is still looked at.
+// What stands far behind in a text is looked at too.
 #[test]
 fn texts_longer_than_a_block(rt: HostRuntime) {
     let mut text = [b'a'; 100];
@@ -167,31 +167,25 @@ fn presence_texts_meet_utf8_before_length(rt: HostRuntime) -> Result<(), Fail> {
         Err(WireFault::UnexpectedValue),
         "too long and not UTF-8"
     );
-    match read_presence_text(&[0x81, 0x02, 0xff]) {
-        Ok(_) => Err(Fail::new("too long and cut")),
-        Err(f) => {
-            assert_eq!(rt; f, WireFault::EndOfBuffer);
-            Ok(())
-        },
-    }
+    assert_eq!(rt;
+        read_presence_text(&[0x81, 0x02, 0xff]).err(),
+        Some(WireFault::EndOfBuffer),
+        "too long and cut"
+    );
+    Ok(())
 }
 
 #[test]
 fn buffers_and_their_lengths(rt: HostRuntime) -> Result<(), Fail> {
-    match read_buf(&[2, 7, 8, 9]) {
-        Ok((part, rest)) => {
-            assert_eq!(rt; part, [7, 8].as_slice());
-            assert_eq!(rt; rest, [9].as_slice());
-        }
-        Err(f) => return Err(f.into()),
-    }
-    match read_buf(&[3, 7, 8]) {
-        Ok(_) => Err(Fail::new("a buffer that is cut")),
-        Err(f) => {
-            assert_eq!(rt; f, WireFault::EndOfBuffer);
-            Ok(())
-        },
-    }
+    let (part, rest) = read_buf(&[2, 7, 8, 9])?;
+    assert_eq!(rt; part, [7, 8].as_slice());
+    assert_eq!(rt; rest, [9].as_slice());
+    assert_eq!(rt;
+        read_buf(&[3, 7, 8]).err(),
+        Some(WireFault::EndOfBuffer),
+        "a buffer that is cut"
+    );
+    Ok(())
 }
 
 #[test]
@@ -282,9 +276,9 @@ fn entries_are_read_one_after_another(rt: HostRuntime) -> Result<(), Fail> {
     assert_eq!(rt; walk.next(), Some(Ok(Small(9))));
     assert_eq!(rt; walk.next(), Some(Err(WireFault::EndOfBuffer)));
     assert_eq!(rt; walk.next(), None);
-    assert_eq!(rt; check_entries::<Small>(&bytes, 3), Ok(()));
+    assert_eq!(rt; check_counted::<u8, Small>(&[3, 7, 0xff, 0x01, 9]), Ok(()));
     assert_eq!(rt;
-        check_entries::<Small>(&bytes, 4),
+        check_counted::<u8, Small>(&[4, 7, 0xff, 0x01, 9]),
         Err(WireFault::EndOfBuffer)
     );
     let rest = skip_entries::<Small>(&bytes, 2)?;

@@ -7,7 +7,7 @@ ghost use Rattle.std.proofs.Common.{rules};
 use crate::fault::WireFault;
 
 // At most this many bytes make a number.
-const MOST_BYTES: u8 = 10;
+pub const MOST_BYTES: usize = 10;
 
 // An unsigned number of a width that the format has.
 pub trait VarInt: Sized {
@@ -32,6 +32,7 @@ pub trait VarInt: Sized {
     ghost within: { (7 ≤ BITS) × (BITS ≤ 64) };
 }
 
+// The three impls are alike and stay three: each has a line for a body, and there is no derive for them; `Into` and `TryFrom` would be relations to clauses, which name the value by a function.
 impl VarInt for u8 {
     const BITS: u32 = 8;
 
@@ -87,7 +88,8 @@ impl VarInt for u64 {
 }
 
 // A number of at most `room` bytes that is at most `top`, and the bytes after it.
-fn number_in(s: &[u8], room: u8, top: u64) -> Result<(u64, &[u8]), WireFault>
+// By a recursion, which a byte below 128 ends; a loop that carries a running sum says the same with twice the proof.
+fn number_in(s: &[u8], room: usize, top: u64) -> Result<(u64, &[u8]), WireFault>
     requires room { 0 < room }
     requires top { 127 ≤ top }
     ensures { read result ≡ number_in room top s.now }

@@ -7,12 +7,9 @@ ghost use Rattle.encoding.specs.Writing.{shortest, buffer_out, text_out, client_
 use crate::fault::WireFault;
 use crate::read::{check_client_id, check_count, check_presence_text, check_text};
 use crate::sink::{BufferTooShort, Sink};
-use crate::var_uint::VarInt;
+use crate::var_uint::{MOST_BYTES, VarInt};
 use arrayvec::ArrayVec;
 use thiserror::Error;
-
-// At most this many bytes spell a number of 64 bits.
-const LONGEST: usize = 10;
 
 // Why a value is not written.
 #[derive(Clone, Copy, Debug, PartialEq, Eq, Error)]
@@ -45,7 +42,7 @@ impl From<BufferTooShort> for WriteFault {
 }
 
 // The shortest spelling of a number.
-fn spelling(n: u64) -> ArrayVec<u8, LONGEST>
+pub fn spelling(n: u64) -> ArrayVec<u8, MOST_BYTES>
     ensures { result.items ≡ shortest n }
 {
     let mut bytes = ArrayVec::new();
@@ -85,6 +82,7 @@ pub fn write_buf<S: Sink>(sink: &mut S, bytes: &[u8]) -> Result<(), BufferTooSho
 }
 
 // A text: a buffer in UTF-8.
+// Judged, then written, as the next three are: one function for the four would be given judge and writer, and its contract would be longer than they are.
 pub fn write_string<S: Sink>(sink: &mut S, text: &[u8]) -> Result<(), WriteFault>
     ensures { Writes S.Sink.room S.Sink.step sink.old (text_out text.now) result sink.new }
 {

@@ -4,7 +4,6 @@ ghost use Rattle.inspect.specs.declared.normal.NoForm.TheVariants.{Unread};
 
 use encoding::entries::Entries;
 use encoding::fault::WireFault;
-use encoding::read::read_count;
 use encoding::write::WriteFault;
 use message::message::Message;
 use message::presence::PresenceEntry;
@@ -51,9 +50,8 @@ impl From<WriteFault> for NoForm {
 
 // The entries of a presence update, each client once.
 fn collect_presence(part: &[u8]) -> Result<PresenceUpdate, NoForm> {
-    let (n, rest) = read_count::<u64>(part)?;
     let mut update = PresenceUpdate::new();
-    for entry in Entries::<PresenceEntry>::new(rest, n) {
+    for entry in Entries::<PresenceEntry>::read::<u64>(part)? {
         let entry = entry?;
         if look_up(update.entries(), entry.client).is_some() {
             return Err(NoForm::Twice(entry.client));

@@ -1,7 +1,6 @@
 // Messages in words.
 use crate::normal::write_normal;
 use encoding::entries::Entries;
-use encoding::read::read_count;
 use hexadecimal::{Hex, parse_line};
 use message::message::Message;
 use message::messages::{End, MessageReader, Placed};
@@ -142,12 +141,12 @@ impl Report {
         Ok(())
     }
 
+    // This and the next are alike and stay two: heading, width, entry and line differ, and one function would have a parameter for each.
     // The entries of a vector, a line each. They were read once as a part of the message, so no reader refuses them here.
     fn add_vector(&mut self, part: &[u8]) -> anyhow::Result<()> {
         let size = Counted(part.len(), "byte");
         writeln!(self.text, "sync step 1, a vector of {size}")?;
-        let (n, rest) = read_count::<u32>(part)?;
-        let mut entries = Entries::<VectorEntry>::new(rest, n);
+        let mut entries = Entries::<VectorEntry>::read::<u32>(part)?;
         for entry in entries.by_ref() {
             let VectorEntry { client, clock } = entry?;
             writeln!(self.text, "    client {client}, clock {clock}")?;
@@ -159,8 +158,7 @@ impl Report {
     fn add_presence(&mut self, part: &[u8]) -> anyhow::Result<()> {
         let size = Counted(part.len(), "byte");
         writeln!(self.text, "awareness, a presence update of {size}")?;
-        let (n, rest) = read_count::<u64>(part)?;
-        let mut entries = Entries::<PresenceEntry>::new(rest, n);
+        let mut entries = Entries::<PresenceEntry>::read::<u64>(part)?;
         for entry in entries.by_ref() {
             self.add_presence_entry(entry?)?;
         }
@@ -227,6 +225,7 @@ impl Report {
                     "  refused with {number} ({fault:?}: {fault}) at message {count}, byte {place}"
                 )?;
             }
+            // not met: the reader went on until no message was left
             None => writeln!(self.text, "  more messages follow")?,
         }
         Ok(())

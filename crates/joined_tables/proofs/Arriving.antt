@@ -26,13 +26,6 @@ module _ {E : Type 0} (key : E → ℕ) (above : E → E → Bool) (fine : E →
   pub table_is : (xs : List E) → sound key fine xs ≡ true → (table key above fine xs).0 ≡ xs
   table_is xs e = admitted xs (none key above fine) e
 
-  pub table_of : (d : Sound key fine) → table key above fine d.0 ≡ d
-  table_of d = same_table key above fine _ d (table_is d.0 (holds_of (sound key fine d.0) d.1))
-    where
-      holds_of : (b : Bool) → T b → b ≡ true
-      holds_of true t = refl
-      holds_of false t = absurd t
-
   -- an entry that passes comes into the table with these entries
   pub enter_table : (xs : List E) (e : E) → sound key fine xs ≡ true → sound key fine (entered key above xs e) ≡ true → fine e ≡ true → enter key above fine (table key above fine xs) e ≡ table key above fine (entered key above xs e)
   enter_table xs e s t f =

@@ -118,6 +118,3 @@ module _ {E : Type 0} (rows : Rows E) (fair : Fair rows) where
       too_large l =
           let t = lt-leb (k.size (k.join d (joins r whole).0)) limit (omega (arith, size_is)) in
           (sym (ap (answer_to k limit d) read_is ∙ cond-false _ (Ok tt) (Err TooLarge) t), sym (ap (after k limit d) read_is ∙ cond-false _ (k.join d (joins r whole).0) d t))
-
-    pub not_read : (r : Result (List E) WireFault) (f : WireFault) → r ≡ wholly (rows_in rows bytes) → r ≡ Err f → (k.reading bytes ≡ Err f)
-    not_read r f reads e = ap (table_of rows) (sym reads ∙ e)

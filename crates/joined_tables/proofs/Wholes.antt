@@ -1,15 +1,10 @@
 -- Bytes that were read to their end.
-use Rattle.std.proofs.Common.{◌≡◌, ℕ, List, [], ◌∷◌, Ok, Err, Result, sym, refl, ap, ◌∙◌, append-nil}
+use Rattle.std.proofs.Common.{◌≡◌, [], ◌∷◌, Ok, Err, Result, refl, ap}
 use Rattle.encoding.specs.declared.fault.WireFault.{WireFault}
 use Rattle.encoding.specs.Reading.{Reading, named}
-use Rattle.encoding.specs.Spelling.{Exactly}
 use Rattle.joined_tables.specs.Whole.{wholly}
 
--- what is spelt from the first byte to the last is read wholly
-pub spelt_wholly : {X : Type 0} {r : List ℕ → Reading X} {P : X → List ℕ → Type 0} → Exactly r P → (x : X) (bs : List ℕ) → P x bs → wholly (r bs) ≡ Ok x
-spelt_wholly {r = r} h x bs p = ap (λ l. wholly (r l)) (sym (append-nil bs)) ∙ ap wholly (h.spelt_is_taken x bs [] p)
-
--- and what is read wholly leaves nothing over
+-- what is read wholly leaves nothing over
 pub whole_is : {X : Type 0} (r : Reading X) (x : X) → wholly r ≡ Ok x → r ≡ Ok (x, [])
 whole_is (Ok (y, [])) x h = let same : y ≡ x = cc in ap (λ z. Ok (z, [])) same
 whole_is (Ok (y, b ∷ bs)) x h = cc

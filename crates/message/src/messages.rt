@@ -8,7 +8,7 @@ use crate::message::{Message, check_contents, read_message};
 use encoding::fault::WireFault;
 use std::marker::Model;
 
-// What stands at the front of the bytes. Four cases that exclude one another: a Result of an Option would nest them.
+// What stands at the front of the bytes. No Result of a message: that the bytes end is no fault, and a cut is none yet.
 #[derive(Clone, Copy, Debug)]
 pub enum Next<'a> {
     // a whole message, and the bytes after it
@@ -124,6 +124,7 @@ impl<'a> Iterator for MessageReader<'a> {
 }
 
 // Reads the first messages of the bytes again, as many as there are places for.
+// Into places of the caller, who may not allocate; with memory at hand, `MessageReader` collects.
 pub fn read_messages<'a>(bytes: &'a [u8], into: &mut [Placed<'a>]) -> Row
     ensures count { result.count ≡ min (length into.old) (length (messages bytes.now).said) }
     ensures said { map placed_is (take result.count into.new) ≡ take (length into.old) (messages bytes.now).said }

@@ -5,9 +5,9 @@ ghost use Rattle.encoding.specs.Entries.{past, past_of, verdict};
 ghost use Rattle.encoding.specs.Reading.{read, read_as};
 ghost use Rattle.message.specs.Presence.{Entry, state_of, entry_is, presence_entry, presence};
 
-use encoding::entries::{Decode, check_entries};
+use encoding::entries::{Decode, check_counted};
 use encoding::fault::WireFault;
-use encoding::read::{read_client_id, read_count, read_presence_text};
+use encoding::read::{read_client_id, read_presence_text};
 use encoding::var_uint::read_var;
 
 // What one client says of itself; its state is none where it shows nothing more, or a text that is a part of the input.
@@ -55,6 +55,5 @@ impl<'a> Decode<'a> for PresenceEntry<'a> {
 pub fn check_presence(s: &[u8]) -> Result<(), WireFault>
     ensures { result ≡ verdict (presence s.now) }
 {
-    let (n, rest) = read_count::<u64>(s)?;
-    check_entries::<PresenceEntry>(rest, n)
+    check_counted::<u64, PresenceEntry>(s)
 }

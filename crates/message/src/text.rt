@@ -5,13 +5,13 @@ ghost use Rattle.message.specs.Owned.{kept_text};
 
 use arrayvec::ArrayVec;
 use encoding::fault::WireFault;
-use encoding::read::check_presence_text;
+use encoding::read::{MAX_PRESENCE_TEXT, check_presence_text};
 use std::marker::Model;
 
 // At most 256 bytes that can be a presence text.
 #[derive(Drop)]
 pub struct PresenceText {
-    bytes: ArrayVec<u8, 256>,
+    bytes: ArrayVec<u8, MAX_PRESENCE_TEXT>,
 }
 
 impl Model for PresenceText {
@@ -33,6 +33,15 @@ impl PresenceText {
         check_presence_text(text)?;
         let bytes = ArrayVec::try_from(text).map_err(|_| WireFault::TextTooLong)?;
         Ok(PresenceText { bytes })
+    }
+
+    // A copy of the text, which cannot fail. By hand, since `Clone` answers that memory may be wanting, and nothing is allocated here.
+    pub fn copy(&self) -> PresenceText
+        ensures { result ≡ self.now }
+    {
+        PresenceText {
+            bytes: ArrayVec::try_from(self.as_bytes()).unwrap(),
+        }
     }
 
     // The bytes of the text.

@@ -12,7 +12,7 @@ use crate::owned::owned_state;
 use crate::presence::PresenceEntry;
 use crate::text::PresenceText;
 use encoding::fault::WireFault;
-use encoding::read::check_client_id;
+use encoding::read::{MAX_ENTRIES, check_client_id};
 use state_vector::keyed::{Keyed, Table};
 use std::marker::Model;
 
@@ -50,6 +50,22 @@ impl Presence {
         })
     }
 
+    // A copy of what it says, which cannot fail; as `PresenceText::copy`, and no `Clone`.
+    pub fn copy(&self) -> Presence
+        ensures { result ≡ self.now }
+    {
+        let Presence {
+            client,
+            clock,
+            state,
+        } = self;
+        Presence {
+            client: *client,
+            clock: *clock,
+            state: state.as_ref().map(|text| text.copy()),
+        }
+    }
+
     // Its clock.
     pub fn clock(&self) -> u32
         ensures { result ≡ self.now.clock }
@@ -77,7 +93,7 @@ impl Keyed for Presence {
 // At most 64 entries that ascend by client id.
 #[derive(Drop)]
 pub struct PresenceUpdate {
-    table: Table<Presence, 64>,
+    table: Table<Presence, MAX_ENTRIES>,
 }
 
 impl Model for PresenceUpdate {
@@ -94,7 +110,7 @@ impl Model for PresenceUpdate {
 }
 
 impl PresenceUpdate {
-    // An update without entries.
+    // An update without entries. No derived `Default`, which would promise nothing.
     pub fn new() -> PresenceUpdate
         ensures { result ≡ [] }
     {
@@ -118,7 +134,7 @@ impl PresenceUpdate {
         ensures answer { result ≡ (if full (λ e. e.client) 64 self.old e then Err TooManyEntries else Ok tt) }
         ensures used { self.new ≡ updated (λ e. e.client) 64 self.old e }
     {
-        // the entry has passed, by its invariant
+        // a look at a field brings in what is true of every entry
         let _passed = &e.client;
         self.table.put(e)?;
         Ok(())

@@ -10,9 +10,9 @@ use crate::owned::state_text;
 use crate::update::{Presence, PresenceUpdate};
 use encoding::entries_out::{Chosen, Entry};
 use encoding::fault::WireFault;
+use encoding::read::check_text;
 use encoding::sink::{BufferTooShort, Counter, Filler, Sink};
-use encoding::utf8::is_text;
-use encoding::write::{WriteFault, write_buf, write_var};
+use encoding::write::{WriteFault, spelling, write_buf, write_var};
 use state_vector::keyed::Keyed;
 use state_vector::vector::StateVector;
 
@@ -31,7 +31,7 @@ pub trait Outgoing {
         ensures { Sent S.Sink.room S.Sink.step sink.old (drafted (told self.now)) result sink.new };
 }
 
-// A message whose parts are bytes.
+// A message whose parts are bytes. Not the enum that is read, in which a vector and a presence update are bytes too: these are written from what was judged.
 #[derive(Clone, Copy, Debug)]
 pub enum Draft<'a> {
     SyncStep2(&'a [u8]),
@@ -53,8 +53,7 @@ impl Entry for Presence {
     }
 }
 
-// Bytes that lead, then a buffer. This and the next two are one shape and stay three: a closure for what differs would have
-// to be told of in a contract that is longer than the functions.
+// Bytes that lead, then a buffer. This and the next stay two: one of bytes and one of entries, which `Chosen` counts first.
 fn put_led<S: Sink>(sink: &mut S, lead: &[u8], part: &[u8]) -> Result<(), BufferTooShort>
     ensures { Sent S.Sink.room S.Sink.step sink.old (led lead.now (buffer_out part.now)) result sink.new }
 {
@@ -74,18 +73,10 @@ fn put_led_entries<E: Entry, S: Sink>(
     Chosen::all(entries).write_buf(sink)
 }
 
-// A tag, then a buffer.
-fn put_custom<S: Sink>(sink: &mut S, tag: u8, part: &[u8]) -> Result<(), BufferTooShort>
-    ensures { Sent S.Sink.room S.Sink.step sink.old (led (shortest tag) (buffer_out part.now)) result sink.new }
-{
-    write_var(sink, tag)?;
-    write_buf(sink, part)
-}
-
 impl Outgoing for StateVector {
     ghost told = { step1 };
 
-    // A vector's ids are judged when it is made: its entries have passed.
+    // A vector's ids are judged when it is made: its entries have passed. Not a default of the trait, which does not know of each type's invariant.
     fn check(&self) -> Result<(), WireFault> {
         let _passed = self.entries();
         Ok(())
@@ -100,7 +91,7 @@ impl Outgoing for StateVector {
 impl Outgoing for PresenceUpdate {
     ghost told = { awareness };
 
-    // An entry's id and text are judged when it is made: the entries have passed.
+    // An entry's id and text are judged when it is made: the entries have passed. Not a default of the trait either.
     fn check(&self) -> Result<(), WireFault> {
         let _passed = self.entries();
         Ok(())
@@ -118,7 +109,7 @@ impl Outgoing for Draft<'_> {
     // A reason has to be a text.
     fn check(&self) -> Result<(), WireFault> {
         match *self {
-            Draft::AuthDenied(reason) if !is_text(reason) => Err(WireFault::UnexpectedValue),
+            Draft::AuthDenied(reason) => check_text(reason),
             _ => Ok(()),
         }
     }
@@ -131,7 +122,7 @@ impl Outgoing for Draft<'_> {
             Draft::AuthDenied(reason) => put_led(sink, &[MSG_AUTH, PERMISSION_DENIED], reason),
             Draft::AuthGranted => sink.put_all(&[MSG_AUTH, PERMISSION_GRANTED]),
             Draft::AwarenessQuery => sink.put_all(&[MSG_QUERY_AWARENESS]),
-            Draft::Custom(tag, part) => put_custom(sink, tag, part),
+            Draft::Custom(tag, part) => put_led(sink, spelling(u64::from(tag)).as_slice(), part),
         }
     }
 }

@@ -3,7 +3,7 @@ ghost use Rattle.std.specs.Prelude.{◌≡◌, ℕ, ◌≤◌, Bool, true, [], l
 ghost use Rattle.std.specs.Option.{option_copied};
 ghost use Rattle.state_vector.specs.Tables.{AnswersBy, ascends, held, always, offered, updated, outcome, Found, Missing};
 
-use arrayvec::{ArrayVec, CapacityError};
+use arrayvec::ArrayVec;
 use encoding::fault::WireFault;
 use std::marker::Model;
 
@@ -32,6 +32,7 @@ pub enum Outcome {
 #[derive(Clone, Copy, Debug, PartialEq, Eq)]
 pub struct TableFull;
 
+// By hand, as clauses name the fault that `?` makes.
 impl From<TableFull> for WireFault {
     ghost use Rattle.std.specs.Prelude.{◌≡◌};
     ghost use Rattle.encoding.specs.declared.fault.WireFault.TheVariants.{TooManyEntries};
@@ -58,17 +59,8 @@ pub fn look_up<E: Keyed>(entries: &[E], client: u64) -> Option<&E>
     requires { ascends E.Keyed.key entries.now ≡ true }
     ensures { option_copied result ≡ held E.Keyed.key client entries.now }
 {
-    match find(entries, client) {
-        Ok(at) => Some(&entries[at]),
-        Err(_) => None,
-    }
-}
-
-impl<E: Drop> From<CapacityError<E>> for TableFull {
-    // A vector that has no place for an entry.
-    fn from(_full: CapacityError<E>) -> TableFull {
-        TableFull
-    }
+    let at = find(entries, client).ok()?;
+    Some(&entries[at])
 }
 
 // Inserts an entry where the search for its client ended, if a place is left.
@@ -81,7 +73,7 @@ fn insert_at<E: Drop, const N: usize>(
     ensures answer { result ≡ (if nat_le N (length entries.old.items) then Err (record {}) else Ok Outcome.Inserted) }
     ensures used { entries.new.items ≡ (if nat_le N (length entries.old.items) then entries.old.items else insert entries.old.items at e) }
 {
-    entries.try_insert(at, e)?;
+    entries.try_insert(at, e).map_err(|_| TableFull)?;
     Ok(Outcome::Inserted)
 }
 
@@ -103,7 +95,7 @@ impl<E: Keyed, const N: usize> Model for Table<E, N> {
 }
 
 impl<E: Keyed + Default, const N: usize> Table<E, N> {
-    // A table without entries.
+    // A table without entries. No derived `Default`, which would promise nothing.
     pub fn new() -> Table<E, N>
         ensures { result ≡ [] }
     {
@@ -181,14 +173,12 @@ impl<E: Keyed + Drop, const N: usize> Table<E, N> {
 }
 
 impl<E: Keyed + Copy + Default, const N: usize> Table<E, N> {
-    // A copy of the table, which cannot fail: where entries are copied, nothing is allocated.
+    // A copy of the table, which cannot fail. By hand, since `Clone` answers that memory may be wanting, and nothing is allocated here.
     pub fn copy(&self) -> Table<E, N>
         ensures { result ≡ self.now }
     {
-        let mut entries = ArrayVec::new();
-        let Ok(()) = entries.try_extend_from_slice(self.entries()) else {
-            unreachable()
-        };
-        Table { entries }
+        Table {
+            entries: ArrayVec::try_from(self.entries()).unwrap(),
+        }
     }
 }

@@ -7,9 +7,9 @@ ghost use Rattle.state_vector.specs.Tables.{ascends, all_below};
 ghost use Rattle.state_vector.specs.Vector.{client_of, vector_entry, vector_entries, vector, clock_of, takes, taken};
 
 use crate::keyed::{Keyed, Table};
-use encoding::entries::{Decode, Entries, check_entries};
+use encoding::entries::{Decode, Entries, check_counted};
 use encoding::fault::WireFault;
-use encoding::read::{check_client_id, read_client_id, read_count};
+use encoding::read::{MAX_ENTRIES, check_client_id, read_client_id};
 use encoding::var_uint::read_var;
 use std::marker::Model;
 
@@ -48,7 +48,7 @@ impl<'a> Decode<'a> for VectorEntry {
 // At most 64 entries that ascend by client id, each with an id that can be written.
 #[derive(Drop)]
 pub struct StateVector {
-    table: Table<VectorEntry, 64>,
+    table: Table<VectorEntry, MAX_ENTRIES>,
 }
 
 impl Model for StateVector {
@@ -65,7 +65,7 @@ impl Model for StateVector {
 }
 
 impl StateVector {
-    // A vector that knows no client.
+    // A vector that knows no client. No derived `Default`, which would promise nothing.
     pub fn new() -> StateVector
         ensures { result ≡ [] }
     {
@@ -114,9 +114,8 @@ impl StateVector {
     pub fn read(s: &[u8]) -> Result<StateVector, WireFault>
         ensures { result ≡ vector s.now }
     {
-        let (count, rest) = read_count::<u32>(s)?;
         let mut v = StateVector::new();
-        for e in Entries::<VectorEntry>::new(rest, count) {
+        for e in Entries::<VectorEntry>::read::<u32>(s)? {
             v.put(e?)?;
         }
         Ok(v)
@@ -127,6 +126,5 @@ impl StateVector {
 pub fn check_vector(s: &[u8]) -> Result<(), WireFault>
     ensures { result ≡ verdict (vector_entries s.now) }
 {
-    let (count, rest) = read_count::<u32>(s)?;
-    check_entries::<VectorEntry>(rest, count)
+    check_counted::<u32, VectorEntry>(s)
 }

@@ -17,9 +17,9 @@ returns-in_err-offer-clause-fits c =
     let then = c.next.new.self in
     let due = entries count_in it.left it.rest.now in
     let after = entries count_in then.left then.rest.now in
-    let step = subst (λ r. Steps {E = Count} (λ e. e) (λ e. (e.client < 2 ^ 53) × (e.count < 2 ^ 32)) due (Some r) after then.rest.now) c.in-Ok.is c.in-Some.ensures.steps in
-    let more = gathered_more client_of outranks keepable c.in-Ok.e due after c.loop-e.invariant.readable step.0 start in
-    let next = enter client_of outranks keepable start c.in-Ok.e in
+    let step = subst (λ r. Steps {E = Count} (λ e. e) (λ e. (e.client < 2 ^ 53) × (e.count < 2 ^ 32)) due (Some r) after then.rest.now) c.unwrap.ensures c.in-Some.ensures.steps in
+    let more = gathered_more client_of outranks keepable c.unwrap.result due after c.loop-e.invariant.readable step.0 start in
+    let next = enter client_of outranks keepable start c.unwrap.result in
     let over = leb-false (length next.0) 64 (sym c.in_err-offer.ensures.fits) in
     ap is_ok (err_from_is_err_and c.from_residual.result c.from_residual.ensures.1).1
     ∙ sym (ap (λ (d : Board). leb (length d.0) 64) (sym c.loop-e.invariant.same ∙ more) ∙ lt-leb _ 64 (omega (arith, over, gathered_grows client_of outranks keepable next (wholly after))))
@@ -28,5 +28,5 @@ pub returns-clause-fits : goal.returns-clause-fits
 returns-clause-fits c =
     let b = c.loop-e.self in
     let it = c.loop-e.e-iterator in
-    let is = sym c.loop-e.invariant.same ∙ gathered_all client_of outranks keepable (entries count_in it.left it.rest.now) _ (board b.counts) c.in-None.ensures.steps in
+    let is = sym c.loop-e.invariant.same ∙ gathered_all client_of outranks keepable (entries count_in it.left it.rest.now) _ (board b.counts) c.in-None.ensures.steps.0 in
     sym (ap (λ (d : Board). leb (length d.0) 64) is ∙ le-leb _ 64 (table_within count_rows 64 b.counts b.few b.sound))

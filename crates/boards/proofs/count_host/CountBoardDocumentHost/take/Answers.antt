@@ -26,16 +26,16 @@ pub returns-in_err-join-clause-answer : goal.returns-in_err-join-clause-answer
 returns-in_err-join-clause-answer c =
     let b = c.args.self.now in
     let u = c.in_ok-update.update in
-    absurd (both_ways _ (sym c.in_err-join.ensures.fits) (le-leb _ 64 (fits b.counts u.count u.counts.now b.sound (omega (arith, ap length c.counts.ensures.all, c.if-counts-update-le64.true)))))
+    absurd (both_ways _ (sym c.in_err-join.ensures.fits) (le-leb _ 64 (fits b.counts u.count u.counts.now b.sound (omega (arith, ap length c.counts.ensures.all, c.if-counts-update.true)))))
 
 pub returns-in_err-join-clause-document : goal.returns-in_err-join-clause-document
 returns-in_err-join-clause-document c =
     let b = c.args.self.now in
     let u = c.in_ok-update.update in
-    absurd (both_ways _ (sym c.in_err-join.ensures.fits) (le-leb _ 64 (fits b.counts u.count u.counts.now b.sound (omega (arith, ap length c.counts.ensures.all, c.if-counts-update-le64.true)))))
+    absurd (both_ways _ (sym c.in_err-join.ensures.fits) (le-leb _ 64 (fits b.counts u.count u.counts.now b.sound (omega (arith, ap length c.counts.ensures.all, c.if-counts-update.true)))))
 
-pub returns-then-counts-update-le64 : goal.returns-then-counts-update-le64
-returns-then-counts-update-le64 c =
+pub returns-then-counts-update : goal.returns-then-counts-update
+returns-then-counts-update c =
     let u = c.in_ok-update.update in
     let t = takes_it count_rows count_fair 64 (board c.args.self.now.counts) c.args.bytes.now (wholly (entries count_in u.count u.counts.now)) c.in_ok-update.ensures.reads c.in_ok-update.ensures.whole (leb-true _ 64 (sym c.in_ok-join.ensures.fits)) in
     record { answer = t.0; document = c.in_ok-join.ensures.joins ∙ t.1 }
