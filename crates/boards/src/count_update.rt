@@ -9,7 +9,7 @@ use encoding::entries::skip_entries;
 use encoding::fault::WireFault;
 use encoding::read::read_count;
 
-// So many counts in the bytes. Not an `Entries`, which is a walk that goes on: an update that was read is only looked at.
+// So many counts in the bytes. Not an `Entries`: an update that was read is a value, `Copy` too, and a walk is used up.
 #[derive(Clone, Copy, Drop)]
 pub struct CountUpdate<'a> {
     pub count: usize,

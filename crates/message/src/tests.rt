@@ -88,8 +88,7 @@ fn row_of(bytes: &[u8]) -> (usize, Option<usize>) {
     let row = read_messages(bytes, &mut into);
     match row.end {
         Some(End::Ended) | None => (row.count, None),
-        Some(End::Cut(place)) => (row.count, Some(place)),
-        Some(End::Refused(place, _)) => (row.count, Some(place)),
+        Some(End::Cut(place) | End::Refused(place, _)) => (row.count, Some(place)),
     }
 }
 
@@ -116,15 +115,13 @@ fn rows_of_messages_and_their_ends(rt: HostRuntime) {
 
 #[test]
 fn every_other_tag_is_custom(rt: HostRuntime) -> Result<(), Fail> {
-    match read_next(&[0xc8, 1, 2, 5, 6, 9]) {
-        Next::Whole(Message::Custom(tag, part), rest) => {
-            assert_eq!(rt; tag, 200);
-            assert_eq!(rt; part, [5, 6].as_slice());
-            assert_eq!(rt; rest, [9].as_slice());
-            Ok(())
-        }
-        _ => Err(Fail::new("a custom message")),
-    }
+    let Next::Whole(Message::Custom(tag, part), rest) = read_next(&[0xc8, 1, 2, 5, 6, 9]) else {
+        return Err(Fail::new("a custom message"));
+    };
+    assert_eq!(rt; tag, 200);
+    assert_eq!(rt; part, [5, 6].as_slice());
+    assert_eq!(rt; rest, [9].as_slice());
+    Ok(())
 }
 
 // The message is written as the bytes; with room for one byte less it is not, and no byte changes.
@@ -249,10 +246,10 @@ fn a_reason_is_judged_before_there_is_room(rt: HostRuntime) {
 #[test]
 fn two_read_back_as_others(rt: HostRuntime) -> Result<(), Fail> {
     check_written(&rt, &Draft::Custom(3, b""), b"\x03\x00")?;
-    match read_next(b"\x03\x00") {
-        Next::Whole(Message::AwarenessQuery, rest) => assert_eq!(rt; rest, [0].as_slice()),
-        _ => return Err(Fail::new("a query")),
-    }
+    let Next::Whole(Message::AwarenessQuery, rest) = read_next(b"\x03\x00") else {
+        return Err(Fail::new("a query"));
+    };
+    assert_eq!(rt; rest, [0].as_slice());
     let spelt = update_of(&[live(7, 3, b"null")])?;
     check_written(&rt, &spelt, b"\x01\x08\x01\x07\x03\x04null")?;
     let (e, _) = PresenceEntry::read(b"\x07\x03\x04null")?;

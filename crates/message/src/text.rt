@@ -31,8 +31,9 @@ impl PresenceText {
         ensures { result ≡ kept_text text.now }
     {
         check_presence_text(text)?;
-        let bytes = ArrayVec::try_from(text).map_err(|_| WireFault::TextTooLong)?;
-        Ok(PresenceText { bytes })
+        Ok(PresenceText {
+            bytes: ArrayVec::try_from(text).unwrap(),
+        })
     }
 
     // A copy of the text, which cannot fail. By hand, since `Clone` answers that memory may be wanting, and nothing is allocated here.

@@ -128,7 +128,8 @@ impl Outgoing for Draft<'_> {
 }
 
 // A message into a buffer from a place on, and how many bytes it has: judged, then counted, and only then written.
-// The buffer and the place come apart: they are a filler only once the message is counted.
+// The buffer and the place come apart: they are a filler only once the message is counted. It counts and fills as `fill` and `Chosen::fill` do, and by
+// itself: a message may be refused besides, so a trait over the three would have a refusal that two of them do not.
 pub fn write_at<M: Outgoing>(m: &M, out: &mut [u8], at: usize) -> Result<usize, WriteFault>
     ensures written { Written out.old at (message_out (M.Outgoing.told m.now)) result out.new }
     ensures back { (bs : List ℕ) → message_out (M.Outgoing.told m.now) ≡ Ok bs → ReadsBack (M.Outgoing.told m.now) bs }
