@@ -305,7 +305,8 @@ impl FromStr for Call {
             ["presence", bytes] => Call::Presence(bytes.parse()?),
             ["updates", board, updates, since] => Call::Updates {
                 kind: kind(board)?,
-                updates: updates.parse::<Listed<_>>()?.0,
+                // at least one: `-` is an update without bytes, and no empty list
+                updates: updates.split(',').map(str::parse).collect::<Result<_, _>>()?,
                 since: since.parse()?,
             },
             _ => return Err(BadCall("a call")),
