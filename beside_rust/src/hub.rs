@@ -1,7 +1,7 @@
 //! A hub around the Rust's awareness and protocol, which answers calls.
 use crate::answer::{Answer, End, Fault, Lists, Mark, Reason, Record, Refusal};
 use crate::block::ClientID;
-use crate::call::{Call, ClockOf, Hex, Pace, Policy};
+use crate::call::{Call, ClockOf, Hex, Pace, Policy, Shown};
 use crate::judge;
 use crate::reading;
 use crate::standins::board::Kind;
@@ -278,7 +278,7 @@ impl Hub {
             .map(|(client, state)| Record {
                 at: ClockOf { client: client.get(), clock: state.clock },
                 time: state.last_updated,
-                shown: reading::shown(state.data.as_deref()),
+                shown: state.data.map_or(Shown::Null, |text| Shown::Text(Hex(text.as_bytes().to_vec()))),
             })
             .collect();
         records.sort_by_key(|record| record.at);

@@ -38,11 +38,11 @@ pub fn vector_of(vector: &StateVector) -> Vec<ClockOf> {
     entries
 }
 
-/// What a text shows: one that spells null is taken as gone by every reader.
-pub fn shown(text: Option<&str>) -> Shown {
+/// What a text that was read shows: one that spells null is taken as gone by every reader.
+fn shown(text: &str) -> Shown {
     match text {
-        None | Some("null") => Shown::Null,
-        Some(text) => Shown::Text(Hex(text.into())),
+        "null" => Shown::Null,
+        text => Shown::Text(Hex(text.into())),
     }
 }
 
@@ -50,7 +50,7 @@ pub fn shown(text: Option<&str>) -> Shown {
 pub fn presence_of(update: &AwarenessUpdate) -> Vec<Presence> {
     let entry = |(client, entry): (&ClientID, &AwarenessUpdateEntry)| Presence {
         at: ClockOf { client: client.get(), clock: entry.clock },
-        shown: shown(Some(&entry.json)),
+        shown: shown(&entry.json),
     };
     let mut entries: Vec<_> = update.clients.iter().map(entry).collect();
     entries.sort_by_key(|entry| entry.at);
