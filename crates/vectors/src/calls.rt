@@ -50,7 +50,10 @@ impl Answer {
             ["presence", bytes] => self.add_presence(bytes),
             ["updates", "count", updates, since] => self.add_updates::<CountBoard>(updates, since),
             ["write", "step1", entries] => self.add_written(&parse_vector(self.heap(), entries)?),
-            ["write", "awareness", entries] => self.add_written(&parse_update(self.heap(), entries)?),
+            ["write", "awareness", entries] => self.add_written(&parse_update(
+                self.heap(),
+                entries,
+            )?),
             ["write", ref message @ ..] => self.add_draft(message),
             _ => bail!("no call that is known"),
         }
@@ -59,7 +62,10 @@ impl Answer {
     // A refusal of reading.
     fn add_fault(&mut self, fault: WireFault) -> anyhow::Result<()> {
         let number = fault.number();
-        Ok(write!(self.text, "refused {number} layer wire message 0 byte 0 reply -")?)
+        Ok(write!(
+            self.text,
+            "refused {number} layer wire message 0 byte 0 reply -"
+        )?)
     }
 
     // The messages that bytes hold, each at its place, and how they end.
@@ -220,7 +226,11 @@ impl Answer {
     }
 
     // Updates, one after another, on a board that was empty: the document, its vector, and what it would send for a vector.
-    fn add_updates<H: DocumentHost + Drop>(&mut self, updates: &str, since: &str) -> anyhow::Result<()> {
+    fn add_updates<H: DocumentHost + Drop>(
+        &mut self,
+        updates: &str,
+        since: &str,
+    ) -> anyhow::Result<()> {
         let heap = self.heap();
         let since = parse_bytes(heap, since)?;
         let since = match StateVector::read(since.as_slice()) {

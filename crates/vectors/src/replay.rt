@@ -44,7 +44,14 @@ impl Counts {
 
     // How many in all.
     fn total(&self) -> u64 {
-        let kinds = [self.read, self.write, self.vector, self.presence, self.count_board, self.slot_board];
+        let kinds = [
+            self.read,
+            self.write,
+            self.vector,
+            self.presence,
+            self.count_board,
+            self.slot_board,
+        ];
         kinds.iter().fold(0u64, |sum, n| sum.saturating_add(*n))
     }
 }
@@ -52,9 +59,23 @@ impl Counts {
 impl fmt::Display for Counts {
     // How many cases, and of what.
     fn fmt<W: fmt::Write>(&self, f: &mut fmt::Formatter<W>) -> fmt::Result {
-        let Counts { read, write, vector, presence, count_board, slot_board } = *self;
-        write!(f, "{} cases: {read} of messages read, {write} of messages written, {vector} of vectors, ", self.total())?;
-        write!(f, "{presence} of presence updates, {count_board} of count boards, {slot_board} of slot boards")
+        let Counts {
+            read,
+            write,
+            vector,
+            presence,
+            count_board,
+            slot_board,
+        } = *self;
+        write!(
+            f,
+            "{} cases: {read} of messages read, {write} of messages written, {vector} of vectors, ",
+            self.total()
+        )?;
+        write!(
+            f,
+            "{presence} of presence updates, {count_board} of count boards, {slot_board} of slot boards"
+        )
     }
 }
 

@@ -60,7 +60,9 @@ pub fn parse_vector(heap: Global, word: &str) -> anyhow::Result<StateVector> {
 
 // A client, its clock and what it shows, as `7:3:6869` or `7:3:null`.
 fn parse_presence(heap: Global, word: &str) -> anyhow::Result<Presence> {
-    let (at, shown) = word.rsplit_once(':').context("a client, its clock and what it shows")?;
+    let (at, shown) = word
+        .rsplit_once(':')
+        .context("a client, its clock and what it shows")?;
     let VectorEntry { client, clock } = parse_clock(at)?;
     let text = match shown {
         "null" => None,
