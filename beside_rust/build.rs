@@ -56,7 +56,9 @@ fn fail(why: String) -> ! {
 fn sources() -> PathBuf {
     println!("cargo:rerun-if-env-changed=YRS_SRC");
     let Some(folder) = env::var_os("YRS_SRC") else {
-        fail("YRS_SRC is not set: it names the folder with the sources of yrs 0.28.0, the one that holds sync/awareness.rs".into());
+        fail(
+            "YRS_SRC is not set: it names the folder with the sources of yrs 0.28.0, the one that holds sync/awareness.rs".into(),
+        );
     };
     let folder = PathBuf::from(folder);
     if !folder.join("sync/awareness.rs").is_file() {
@@ -72,7 +74,8 @@ fn read(folder: &Path, file: &str) -> String {
 }
 
 fn cut(text: &str, part: &Part) -> String {
-    let lost = |marker: &str| -> ! { fail(format!("{} has no line {marker:?}: other sources than those of yrs 0.28.0?", part.file)) };
+    let lost =
+        |marker: &str| -> ! { fail(format!("{} has no line {marker:?}: other sources than those of yrs 0.28.0?", part.file)) };
     let from = text.find(part.from).unwrap_or_else(|| lost(part.from));
     let text = &text[from..];
     match part.to {

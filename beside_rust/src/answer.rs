@@ -164,17 +164,32 @@ impl fmt::Display for Taken {
 #[derive(Debug, Clone, PartialEq, Eq)]
 pub enum Answer {
     Done,
-    Handled { count: usize, place: usize, reply: Hex },
+    Handled {
+        count: usize,
+        place: usize,
+        reply: Hex,
+    },
     Refused(Refusal),
     Lists(Lists),
     Bytes(Hex),
     Record(Option<Record>),
     Records(Vec<Record>),
     Document(Hex),
-    Row { messages: Vec<Placed>, end: End },
-    Vector { entries: Vec<ClockOf>, bytes: Hex },
+    Row {
+        messages: Vec<Placed>,
+        end: End,
+    },
+    Vector {
+        entries: Vec<ClockOf>,
+        bytes: Hex,
+    },
     Presence(Vec<Presence>),
-    Updates { taken: Vec<Taken>, document: Hex, vector: Hex, update: Hex },
+    Updates {
+        taken: Vec<Taken>,
+        document: Hex,
+        vector: Hex,
+        update: Hex,
+    },
     /// The Rust can't be asked this.
     Unasked,
     BadCall(&'static str),

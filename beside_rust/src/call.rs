@@ -24,7 +24,7 @@ impl FromStr for Hex {
             return Ok(Hex::default());
         }
         let digits = text.as_bytes();
-        if digits.is_empty() || digits.len() % 2 != 0 || !text.is_ascii() {
+        if digits.is_empty() || !digits.len().is_multiple_of(2) || !text.is_ascii() {
             return Err(BadCall("bytes"));
         }
         let pairs = (0..text.len()).step_by(2).map(|i| u8::from_str_radix(&text[i..i + 2], 16));
@@ -186,6 +186,19 @@ pub enum Call {
     Vector(Hex),
     Presence(Hex),
     Updates { kind: Kind, updates: Vec<Hex>, since: Hex },
+}
+
+impl Call {
+    /// Whether it is made on a hub.
+    pub fn needs_hub(&self) -> bool {
+        match self {
+            Call::Hub { .. } | Call::Read(_) | Call::Write(_) | Call::Vector(_) | Call::Presence(_) | Call::Updates { .. } => {
+                false
+            }
+            Call::Clock(_) | Call::Handle(_) | Call::Apply(_) | Call::Set(_) | Call::Clean | Call::Remove(_) => true,
+            Call::Step1 | Call::Start | Call::Show(_) | Call::List(_) | Call::Records | Call::Document => true,
+        }
+    }
 }
 
 impl fmt::Display for Kind {

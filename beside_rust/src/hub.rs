@@ -17,7 +17,7 @@ use std::sync::atomic::{AtomicU64, Ordering};
 use std::sync::Arc;
 
 /// Client ids that the Rust takes as they are stay below this.
-const END_OF_IDS: u64 = 1 << 53;
+pub const END_OF_IDS: u64 = 1 << 53;
 
 /// The default protocol, except that custom tags from 16 to 31 are accepted.
 struct Ranges;
@@ -42,13 +42,7 @@ struct Watched {
 
 impl Watched {
     fn new(policy: Policy) -> Self {
-        Watched {
-            policy,
-            done: Cell::new(0),
-            handling: Cell::new(false),
-            replies: RefCell::default(),
-            outside: Cell::new(None),
-        }
+        Watched { policy, done: Cell::new(0), handling: Cell::new(false), replies: RefCell::default(), outside: Cell::new(None) }
     }
 }
 

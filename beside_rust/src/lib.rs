@@ -97,6 +97,7 @@ pub mod answer;
 pub mod call;
 pub mod hub;
 pub mod judge;
+pub mod oracle;
 pub mod reading;
 pub mod wire;
 

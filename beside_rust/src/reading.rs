@@ -108,10 +108,9 @@ pub fn read_in_words(bytes: &[u8]) -> (Answer, Mark) {
 pub fn vector(bytes: &[u8]) -> (Answer, Mark) {
     let mark = mark(wire::outside(bytes, Holds::Vector));
     let answer = match StateVector::decode_v1(bytes) {
-        Ok(vector) => Answer::Vector {
-            entries: vector_of(&vector),
-            bytes: Hex(wire::in_client_order(&vector.encode_v1(), Holds::Vector)),
-        },
+        Ok(vector) => {
+            Answer::Vector { entries: vector_of(&vector), bytes: Hex(wire::in_client_order(&vector.encode_v1(), Holds::Vector)) }
+        }
         Err(error) => Answer::Refused(fault_of(&error).into()),
     };
     (answer, mark)

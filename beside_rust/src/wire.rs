@@ -143,7 +143,9 @@ fn frame(r: &mut Bytes) -> Result<Frame, Stop> {
     match r.number(byte)? {
         0 => match r.number(byte)? {
             0 => holds = Some((Holds::Vector, r.buffer()?)),
-            1 | 2 => drop(r.buffer()?),
+            1 | 2 => {
+                r.buffer()?;
+            }
             _ => return Err(Stop::Both),
         },
         1 => holds = Some((Holds::Presence, r.buffer()?)),
@@ -153,7 +155,9 @@ fn frame(r: &mut Bytes) -> Result<Frame, Stop> {
             }
         }
         3 => {}
-        _ => drop(r.buffer()?),
+        _ => {
+            r.buffer()?;
+        }
     }
     Ok(Frame { holds })
 }

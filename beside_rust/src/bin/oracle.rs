@@ -2,8 +2,7 @@
 //! With `--pairs` what is inside is printed as pairs, a call and `= ` with its answer; `= ?` where a hub's answer is outside.
 use beside_rust::answer::{Answer, Mark};
 use beside_rust::call::{BadCall, Call};
-use beside_rust::hub::Hub;
-use beside_rust::reading;
+use beside_rust::oracle::Oracle;
 use std::alloc::{GlobalAlloc, Layout, System};
 use std::io::{self, BufRead, BufWriter, Write};
 
@@ -27,39 +26,12 @@ unsafe impl GlobalAlloc for Bounded {
 #[global_allocator]
 static MEMORY: Bounded = Bounded;
 
-/// Whether a call is made on a hub.
-fn needs_hub(call: &Call) -> bool {
-    !matches!(call, Call::Hub { .. } | Call::Read(_) | Call::Write(_) | Call::Vector(_) | Call::Presence(_) | Call::Updates { .. })
-}
-
-fn answer(hub: &mut Option<Hub>, call: &Call) -> (Answer, Mark) {
-    match call {
-        Call::Hub { own, kind, policy, pace, reading } => {
-            *hub = Some(Hub::new(*own, *kind, *policy, *pace, *reading));
-            let mark = match *own {
-                0..=0x1f_ffff_ffff_ffff => Mark::Inside,
-                _ => Mark::Outside(beside_rust::answer::Reason::Id),
-            };
-            (Answer::Done, mark)
-        }
-        Call::Read(bytes) => reading::read_in_words(&bytes.0),
-        Call::Write(fields) => reading::write(fields),
-        Call::Vector(bytes) => reading::vector(&bytes.0),
-        Call::Presence(bytes) => reading::presence(&bytes.0),
-        Call::Updates { kind, updates, since } => reading::updates(*kind, updates, &since.0),
-        _ => match hub {
-            Some(hub) => hub.answer(call),
-            None => (Answer::BadCall("a hub comes first"), Mark::NoCall),
-        },
-    }
-}
-
 /// A call and its answer, as far as it may be compared.
 fn write_pair(out: &mut impl Write, call: &Call, answer: &Answer, mark: Mark) -> io::Result<()> {
     match mark {
         Mark::Inside => writeln!(out, "{call}\n= {answer}"),
         Mark::Lists(_) => writeln!(out, "{call}\n= {answer} | lists"),
-        Mark::Outside(_) if needs_hub(call) => writeln!(out, "{call}\n= ?"),
+        Mark::Outside(_) if call.needs_hub() => writeln!(out, "{call}\n= ?"),
         Mark::Outside(_) | Mark::Astray(_) | Mark::NoCall => Ok(()),
     }
 }
@@ -67,7 +39,7 @@ fn write_pair(out: &mut impl Write, call: &Call, answer: &Answer, mark: Mark) ->
 fn main() -> io::Result<()> {
     let pairs = std::env::args().skip(1).any(|arg| arg == "--pairs");
     let mut out = BufWriter::new(io::stdout().lock());
-    let mut hub = None;
+    let mut oracle = Oracle::default();
     for line in io::stdin().lock().lines() {
         let line = line?;
         if line.trim().is_empty() || line.starts_with('#') {
@@ -75,7 +47,7 @@ fn main() -> io::Result<()> {
         }
         match line.parse::<Call>() {
             Ok(call) => {
-                let (answer, mark) = answer(&mut hub, &call);
+                let (answer, mark) = oracle.answer(&call);
                 if pairs {
                     write_pair(&mut out, &call, &answer, mark)?;
                 } else {

@@ -35,12 +35,20 @@ fn refused(number: u8) -> Error {
 
 fn read_client(r: &mut Cursor) -> Result<u64, Error> {
     let client: u64 = r.read_var()?;
-    if client < END_OF_IDS { Ok(client) } else { Err(refused(4)) }
+    if client < END_OF_IDS {
+        Ok(client)
+    } else {
+        Err(refused(4))
+    }
 }
 
 fn read_count(r: &mut Cursor) -> Result<u32, Error> {
     let count: u32 = r.read_var()?;
-    if count <= MAX_ENTRIES { Ok(count) } else { Err(refused(5)) }
+    if count <= MAX_ENTRIES {
+        Ok(count)
+    } else {
+        Err(refused(5))
+    }
 }
 
 /// A slot's clock, then its bytes.
@@ -103,7 +111,11 @@ impl Board {
                 Board::Slot(slots) => offer(slots, client, read_slot(&mut r)?),
             }
         }
-        if r.has_content() { Err(Error::UnexpectedValue) } else { Ok(board) }
+        if r.has_content() {
+            Err(Error::UnexpectedValue)
+        } else {
+            Ok(board)
+        }
     }
 
     /// The join with an update, or nothing where it would be larger than the limit.

@@ -30,6 +30,12 @@ impl Doc {
     }
 }
 
+impl Default for Doc {
+    fn default() -> Self {
+        Doc::new()
+    }
+}
+
 pub trait ReadTxn {
     fn board(&self) -> &Board;
 

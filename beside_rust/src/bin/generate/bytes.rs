@@ -14,11 +14,32 @@ const CLIENTS: [u64; 13] = [0, 1, 2, 5, 7, 9, 63, 64, 127, 128, 300, 1 << 40, (1
 const PAST_CLIENTS: [u64; 3] = [1 << 53, (1 << 53) + 7, u64::MAX];
 const NARROW_CLOCKS: [u64; 6] = [0, 1, 2, 3, 4, 5];
 const CLOCKS: [u64; 12] = [0, 1, 2, 3, 5, 127, 128, 300, 16384, 65536, 0xffff_fffe, 0xffff_ffff];
-const NOT_TEXTS: [&[u8]; 9] =
-    [b"\xff", b"\xc0\x80", b"\xed\xa0\x80", b"\xf4\x90\x80\x80", b"\xe2\x82", b"a\x80", b"\xe0\x9f\xbf", b"\xf0\x8f\xbf\xbf", b"\xc1\xbf"];
+const NOT_TEXTS: [&[u8]; 9] = [
+    b"\xff",
+    b"\xc0\x80",
+    b"\xed\xa0\x80",
+    b"\xf4\x90\x80\x80",
+    b"\xe2\x82",
+    b"a\x80",
+    b"\xe0\x9f\xbf",
+    b"\xf0\x8f\xbf\xbf",
+    b"\xc1\xbf",
+];
 const TEXTS: [&[u8]; 14] = [
-    b"", b"a", b"b", b"\"in\"", b"null", b"nul", b"nulll", b"Null", b"{\"file\":1}", b"\xc2\x80", b"\xed\x9f\xbf", b"\xee\x80\x80",
-    b"\xf0\x90\x80\x80", b"\xf4\x8f\xbf\xbf",
+    b"",
+    b"a",
+    b"b",
+    b"\"in\"",
+    b"null",
+    b"nul",
+    b"nulll",
+    b"Null",
+    b"{\"file\":1}",
+    b"\xc2\x80",
+    b"\xed\x9f\xbf",
+    b"\xee\x80\x80",
+    b"\xf0\x90\x80\x80",
+    b"\xf4\x8f\xbf\xbf",
 ];
 
 /// A number, mostly in its shortest spelling, now and then in a longer one or in one that never ends.
@@ -84,7 +105,11 @@ fn declared(r: &mut Random, true_count: usize) -> u64 {
 
 /// Bytes that follow where none should: mostly none.
 fn left_over(r: &mut Random) -> &'static [u8] {
-    if r.once_in(20) { b"\x00" } else { b"" }
+    if r.once_in(20) {
+        b"\x00"
+    } else {
+        b""
+    }
 }
 
 /// A count and so many entries; where there are many, each is of a client of its own, and mostly too in what scripts are made of.

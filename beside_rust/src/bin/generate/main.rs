@@ -65,7 +65,11 @@ fn clock_of(r: &mut Random) -> ClockOf {
 }
 
 fn shown(r: &mut Random) -> Shown {
-    if r.once_in(5) { Shown::Null } else { Shown::Text(Hex(bytes::text(r, Width::Wide))) }
+    if r.once_in(5) {
+        Shown::Null
+    } else {
+        Shown::Text(Hex(bytes::text(r, Width::Wide)))
+    }
 }
 
 /// A message to be written, of any kind.
@@ -88,7 +92,13 @@ fn short(len: usize) -> Vec<Call> {
     let all = all_short(len).into_iter().map(Hex);
     all.flat_map(|bytes| {
         let board = |kind| Call::Updates { kind, updates: vec![bytes.clone()], since: Hex(vec![0]) };
-        [Call::Read(bytes.clone()), Call::Vector(bytes.clone()), Call::Presence(bytes.clone()), board(Kind::Count), board(Kind::Slot)]
+        [
+            Call::Read(bytes.clone()),
+            Call::Vector(bytes.clone()),
+            Call::Presence(bytes.clone()),
+            board(Kind::Count),
+            board(Kind::Slot),
+        ]
     })
     .collect()
 }

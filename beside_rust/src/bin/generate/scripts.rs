@@ -18,7 +18,11 @@ fn fresh(r: &mut Random) -> Call {
 fn packet(r: &mut Random) -> Vec<u8> {
     let width = if r.once_in(60) { Width::Wide } else { Width::Narrow };
     let bytes = bytes::messages(r, width);
-    if r.once_in(10) { bytes::damaged(r, bytes) } else { bytes }
+    if r.once_in(10) {
+        bytes::damaged(r, bytes)
+    } else {
+        bytes
+    }
 }
 
 fn known(r: &mut Random) -> u64 {
