@@ -4,3 +4,9 @@ pub mod Judging
 pub mod Walking
 pub mod Seating
 pub mod Following
+pub mod Tests
+pub mod Received
+pub mod Lists
+pub mod Own
+pub mod Times
+pub mod Newest
