@@ -5,5 +5,7 @@ pub mod change;
 pub mod clock;
 pub mod fault;
 pub mod laws;
+pub mod observer;
 pub mod record;
+mod standing;
 pub mod awareness;
