@@ -15,7 +15,7 @@
 --   lists_over   a list over the caller's places
 --   all_known    each of the clients is held
 --   listing      the update of some clients, or why there is none
-use Rattle.std.specs.Prelude.{◌≡◌, ℕ, ◌^◌, Bool, true, false, cond, List, [], ◌∷◌, ◌++◌, map, filter, length, drop, Some, None, Ok, Err, Option, Result, is_none, is_ok, is_some, ◌==◌, nat_le, nat_lt, ◌||◌, ◌&&◌}
+use Rattle.std.specs.Prelude.{◌≡◌, ℕ, ◌^◌, Bool, true, false, cond, List, [], ◌∷◌, map, filter, length, Some, None, Ok, Err, Option, Result, is_some, ◌==◌, nat_le, nat_lt, ◌||◌}
 use Rattle.std.specs.List.{list_all}
 use Rattle.std.specs.Result.{result_and}
 use Rattle.encoding.specs.declared.fault.WireFault.{WireFault}
@@ -28,8 +28,8 @@ use Rattle.awareness.specs.declared.fault.AwarenessFault.TheVariants.{Wire, Pres
 use Rattle.awareness.specs.declared.fault.PresenceFault.{PresenceFault}
 use Rattle.awareness.specs.declared.fault.PresenceFault.TheVariants.{TooManyClients, ClockAtEnd, ClientNotFound}
 use Rattle.awareness.specs.declared.change.Change.{Change}
-use Rattle.awareness.specs.Changes.{changes, listed}
-use Rattle.awareness.specs.Record.{Record, client_of, entry_of, held_of, live}
+use Rattle.awareness.specs.Changes.{changes}
+use Rattle.awareness.specs.Record.{Record, entry_of, held_of, live}
 use Rattle.awareness.specs.Taking.{taken, set_to, removed, stored}
 
 -- a held clock that has risen past 32 bits

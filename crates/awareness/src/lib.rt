@@ -1,6 +1,7 @@
 // Presence: what a hub holds of each client, what updates do to it, and the lists that tell of it.
 #![tactic(auto)]
 
+pub mod awareness;
 pub mod change;
 pub mod clock;
 pub mod fault;
@@ -8,4 +9,3 @@ pub mod laws;
 pub mod observer;
 pub mod record;
 mod standing;
-pub mod awareness;
