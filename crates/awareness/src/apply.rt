@@ -1,5 +1,5 @@
 // Updates taken by the table of records: judged whole before anything changes.
-ghost use Rattle.std.specs.Prelude.{◌≡◌, is_ok, Ok};
+ghost use Rattle.std.specs.Prelude.{◌≡◌, ℕ, is_ok, Ok};
 ghost use Rattle.std.specs.Result.{result_and};
 ghost use Rattle.message.specs.Presence.{presence};
 ghost use Rattle.awareness.specs.Calls.{apply, brought, judged, ReadIf};
@@ -25,7 +25,7 @@ impl Awareness {
         clock: &mut C,
         seen: &mut O,
     ) -> Result<(), PresenceFault>
-        ensures answer { result ≡ judged self.old.own (taken self.old.own (C.Clock.next clock.old) self.old.rows update.now) }
+        ensures answer { (now : ℕ) → result ≡ judged self.old.own (taken self.old.own now self.old.rows update.now) }
         ensures rows { self.new.rows ≡ (brought self.old.own (C.Clock.next clock.old) self.old.rows update.now).rows }
         ensures own { self.new.own ≡ self.old.own }
         ensures seen { seen.new ≡ noted O.Observer.after seen.old (brought self.old.own (C.Clock.next clock.old) self.old.rows update.now).changes }
