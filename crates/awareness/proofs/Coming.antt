@@ -1,20 +1,16 @@
 -- What an entry does to the records, by the record that comes in with it.
-use Rattle.std.proofs.Common.{◌≡◌, ℕ, ◌+◌, ◌^◌, ◌≤◌, ◌<◌, Bool, true, false, cond, eqb, leb, ltb, List, [], ◌∷◌, length, ◌&&◌, is_ok, is_some, is_none, Some, None, Ok, Err, Option, Result, sym, refl, ap, ◌∙◌, subst, ⊎_elim, arith}
-use Rattle.std.proofs.lemmas.Bool.{cases_Bool, cases_eq, cond-true, cond-false, and_parts, or_left, leb-true, lt-ltb}
-use Rattle.state_vector.specs.Tables.{always, ascends, better, entered, held, raised, updated, full, answer, outcome}
+use Rattle.std.proofs.Common.{◌≡◌, ℕ, ◌+◌, ◌≤◌, Bool, true, false, cond, eqb, leb, ltb, List, length, ◌&&◌, is_ok, is_some, is_none, Some, None, Ok, Err, Option, sym, refl, ap, ◌∙◌, subst, ⊎_elim, arith}
+use Rattle.std.proofs.lemmas.Bool.{cases_Bool, cond-true, cond-false, and_parts, or_left, leb-true, lt-ltb}
+use Rattle.state_vector.specs.Tables.{always, ascends, entered, raised, updated, full, answer, outcome}
 use Rattle.state_vector.specs.declared.keyed.Outcome.{Outcome}
 use Rattle.state_vector.specs.declared.keyed.Outcome.TheVariants.{Inserted}
 use Rattle.state_vector.specs.declared.keyed.TableFull.{TableFull}
-use Rattle.state_vector.proofs.Entering.{ascends_entered, held_own, held_other, length_kept}
 use Rattle.state_vector.proofs.Keys.{held_key}
 use Rattle.message.specs.Presence.{Entry}
-use Rattle.awareness.specs.declared.change.Change.{Change}
-use Rattle.awareness.specs.declared.change.Change.TheVariants.{Kept, Hidden, Added, Repeated, Changed, Raised, Removed}
-use Rattle.awareness.specs.declared.fault.PresenceFault.{PresenceFault}
-use Rattle.awareness.specs.Calls.{judged, past_end}
-use Rattle.awareness.specs.Changes.{change_by, taken_over, same, comes_by, comes, come_in}
+use Rattle.awareness.specs.declared.change.Change.TheVariants.{Kept, Hidden, Added, Repeated, Changed, Raised}
+use Rattle.awareness.specs.Changes.{taken_over, same, comes_by, comes, come_in}
 use Rattle.awareness.specs.Record.{Record, Clients, client_of, above, held_of, outranks}
-use Rattle.awareness.specs.Taking.{plain, defies, lifted, newcomer, received, taken, stored}
+use Rattle.awareness.specs.Taking.{plain, defies, lifted, newcomer, received, stored}
 use Rattle.awareness.proofs.Entered.{entered_alike, entered_kept, has_place}
 
 module _ (own now : ℕ) (rows : List Record) (e : Entry) (up : ascends client_of rows ≡ true) where

@@ -1,9 +1,9 @@
 -- Records after one came in, by what is then held of each client.
 use Rattle.std.proofs.Common.{◌≡◌, ℕ, ◌+◌, ◌≤◌, Bool, true, false, cond, ◌||◌, eqb, ltb, leb, List, [], ◌∷◌, length, is_some, Some, None, Option, suc, ◌<◌, get_or, sym, refl, ap, ◌∙◌, subst, ⊎_elim, arith, length-set}
 use Rattle.std.proofs.lemmas.Bool.{cases_eq, cases_order, cond-true, cond-false, and_parts, lt-ltb, le-ltb, or_right, eq-eqb, ne_eqb}
-use Rattle.state_vector.specs.Tables.{all_above, ascends, always, better, entered, full, held, place, raised, updated}
-use Rattle.state_vector.proofs.Entering.{ascends_entered, entered_held, held_own, held_other, length_new, length_kept}
-use Rattle.state_vector.proofs.Keys.{above_less, held_key, none_above, same_rows, skip}
+use Rattle.state_vector.specs.Tables.{all_above, ascends, better, entered, full, held, place, raised}
+use Rattle.state_vector.proofs.Entering.{ascends_entered, entered_held, held_own, held_other, length_new}
+use Rattle.state_vector.proofs.Keys.{above_less, none_above, same_rows, skip}
 use Rattle.state_vector.proofs.Offering.{not_full}
 
 module _ {E : Type 0} (key : E → ℕ) where

@@ -1,6 +1,6 @@
 -- The own record, followed through an update before any entry is taken.
-use Rattle.std.proofs.Common.{◌≡◌, ℕ, ◌+◌, ◌^◌, ◌≤◌, ◌<◌, Bool, true, false, cond, not, ◌&&◌, ◌||◌, eqb, leb, ltb, List, [], ◌∷◌, is_none, is_some, Some, None, Ok, Err, Option, Result, sym, refl, ap, ◌∙◌, subst, ⊎_elim, arith}
-use Rattle.std.proofs.lemmas.Bool.{cases_Bool, cond_both, lt-leb, cond-true, cond-false, and_parts, and_from, or_left, or_from, lt-ltb, le-leb, eqb-true, leb-true, eq-eqb, true≢false}
+use Rattle.std.proofs.Common.{◌≡◌, ℕ, ◌+◌, ◌^◌, Bool, true, false, cond, not, ◌&&◌, ◌||◌, eqb, leb, ltb, List, [], ◌∷◌, is_none, is_some, Some, None, Ok, Err, Option, Result, sym, refl, ap, ◌∙◌, subst, ⊎_elim, arith}
+use Rattle.std.proofs.lemmas.Bool.{cases_Bool, cond_both, lt-leb, cond-true, cond-false, and_parts, and_from, or_left, lt-ltb, le-leb, eqb-true, leb-true, eq-eqb, true≢false}
 use Rattle.std.proofs.lemmas.List.Elements.{All-head, All-tail}
 use Rattle.std.specs.List.{All}
 use Rattle.state_vector.specs.Tables.{ascends, better, raised}
@@ -103,13 +103,15 @@ module _ (own now : ℕ) where
 
     pub follows_own : (r : Result Standing PresenceFault) (t : Standing) → e.client ≡ own → r ≡ cond (leb (2 ^ 32) (followed standing e).clock) (Err ClockAtEnd) (Ok (followed standing e)) → r ≡ Ok t → Follows before all (Some t) others
     follows_own r t mine a is =
-        let q = can_rise (leb (2 ^ 32) (followed standing e).clock) refl (sym a ∙ is) in
-        (received own now here e, record {
-          up = ascends_received own now here e s.up;
-          rest = s.rest ∙ ap (taken own now here) first;
-          is = now_stands mine ∙ ap Some q.0;
-          low = ap (λ x. leb (2 ^ 32) x.clock) (sym q.0) ∙ q.1;
-        })
+        let q = can_rise (leb (2 ^ 32) (followed standing e).clock) refl (sym a ∙ is) in (
+          received own now here e,
+          record {
+            up = ascends_received own now here e s.up;
+            rest = s.rest ∙ ap (taken own now here) first;
+            is = now_stands mine ∙ ap Some q.0;
+            low = ap (λ x. leb (2 ^ 32) x.clock) (sym q.0) ∙ q.1;
+          },
+        )
       where
         can_rise : (b : Bool) → leb (2 ^ 32) (followed standing e).clock ≡ b → ◌≡◌ {A = Result Standing PresenceFault} (cond b (Err ClockAtEnd) (Ok (followed standing e))) (Ok t) → (followed standing e ≡ t) × (leb (2 ^ 32) (followed standing e).clock ≡ false)
         can_rise true j q = absurd (never q) where
@@ -131,12 +133,15 @@ module _ (own now : ℕ) where
           never z = cc
 
     pub follows_other : (e.client ≡ own → ⊥) → Follows before all standing others
-    follows_other ne = (received own now here e, record {
-      up = ascends_received own now here e s.up;
-      rest = s.rest ∙ ap (taken own now here) first;
-      is = ap stands (held_else own now here e own ne) ∙ s.is;
-      low = s.low;
-    })
+    follows_other ne = (
+      received own now here e,
+      record {
+        up = ascends_received own now here e s.up;
+        rest = s.rest ∙ ap (taken own now here) first;
+        is = ap stands (held_else own now here e own ne) ∙ s.is;
+        low = s.low;
+      },
+    )
 
   pub follows_done : (before : List Record) (all : List Entry) (standing : Option Standing) (es : List Entry) → Follows before all standing es → es ≡ [] → Ok tt ≡ rise_for (held_of own (taken own now before all))
   follows_done before all standing es s none =

@@ -1,16 +1,16 @@
 -- What an update comes to, before any of its entries is taken.
-use Rattle.std.proofs.Common.{◌≡◌, ℕ, suc, ◌+◌, ◌^◌, ◌≤◌, ◌<◌, Bool, true, false, cond, not, ◌&&◌, ◌||◌, eqb, leb, ltb, List, [], ◌∷◌, length, is_some, is_none, Some, None, Ok, Err, Option, Result, sym, refl, ap, ◌∙◌, subst, ⊎_elim, arith}
+use Rattle.std.proofs.Common.{◌≡◌, ℕ, ◌+◌, ◌^◌, ◌≤◌, Bool, true, false, cond, not, ◌&&◌, ◌||◌, eqb, leb, ltb, List, [], ◌∷◌, length, is_some, is_none, Some, None, Ok, Err, Option, Result, sym, refl, ap, ◌∙◌, subst, ⊎_elim, arith}
 use Rattle.std.specs.Result.{result_and}
-use Rattle.std.proofs.lemmas.Bool.{cases_Bool, cases_eq, cond-true, cond-false, cond_both, and_parts, or_left, or_right, leb-true, leb-false, le-leb, lt-ltb, ltb-true, ltb-false, eq-eqb, ne_eqb, eqb-true, or_parts, true≢false}
-use Rattle.state_vector.specs.Tables.{always, ascends, better, entered, held, raised}
-use Rattle.state_vector.proofs.Entering.{ascends_entered, held_own, held_other, length_kept, length_new}
+use Rattle.std.proofs.lemmas.Bool.{cases_Bool, cases_eq, cond-true, cond-false, cond_both, and_parts, or_left, or_right, leb-true, leb-false, le-leb, lt-ltb, ltb-true, ltb-false, ne_eqb, eqb-true, or_parts, true≢false}
+use Rattle.state_vector.specs.Tables.{ascends, better, raised}
+use Rattle.state_vector.proofs.Entering.{ascends_entered, held_own, held_other, length_kept}
 use Rattle.state_vector.proofs.Keys.{held_key}
 use Rattle.message.specs.Presence.{Entry}
 use Rattle.awareness.specs.declared.fault.PresenceFault.{PresenceFault}
 use Rattle.awareness.specs.declared.fault.PresenceFault.TheVariants.{TooManyClients, ClockAtEnd}
 use Rattle.awareness.specs.Calls.{judged, past_end}
-use Rattle.awareness.specs.Record.{Record, client_of, above, held_of, outranks}
-use Rattle.awareness.specs.Taking.{plain, defies, rises, lifted, met, newcomer, received, taken}
+use Rattle.awareness.specs.Record.{Record, client_of, above, held_of}
+use Rattle.awareness.specs.Taking.{plain, defies, rises, lifted, newcomer, received, taken}
 
 module _ (own now : ℕ) where
   -- the record that comes in has the entry's client
@@ -89,7 +89,7 @@ module _ (own now : ℕ) where
   clock_received rows e c up =
       ⊎_elim
       (λ (is : e.client ≡ c). subst (λ c. clock_at (held_of c rows) ≤ clock_at (held_of c (received own now rows e))) is
-        (subst (λ o. clock_at (held_of e.client rows) ≤ clock_at o) (sym (held_then own now rows e up)) (raised_higher (held_of e.client rows) (newcomer own now (held_of e.client rows) e))))
+      (subst (λ o. clock_at (held_of e.client rows) ≤ clock_at o) (sym (held_then own now rows e up)) (raised_higher (held_of e.client rows) (newcomer own now (held_of e.client rows) e))))
       (λ (ne : e.client ≡ c → ⊥). subst (λ o. clock_at (held_of c rows) ≤ clock_at o) (sym (held_else own now rows e c ne)) (omega arith))
       (cases_eq e.client c)
 

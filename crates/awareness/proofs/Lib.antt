@@ -4,6 +4,8 @@ pub mod Judging
 pub mod Walking
 pub mod Seating
 pub mod Following
+pub mod Next
+pub mod Summaries
 pub mod Tests
 pub mod Received
 pub mod Lists

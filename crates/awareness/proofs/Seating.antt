@@ -1,8 +1,8 @@
 -- How many clients an update brings, before any entry is taken.
-use Rattle.std.proofs.Common.{◌≡◌, ℕ, ◌+◌, ◌≤◌, ◌<◌, Bool, true, false, cond, ◌||◌, eqb, leb, ltb, List, [], ◌∷◌, length, is_ok, is_some, is_none, Some, None, Ok, Err, Option, Result, sym, refl, ap, ◌∙◌, subst, arith}
-use Rattle.std.proofs.lemmas.Bool.{cond-true, cond-false, lt-ltb, le-ltb, leb-true, leb-false, or_left, eqb-true}
+use Rattle.std.proofs.Common.{◌≡◌, ℕ, ◌+◌, ◌≤◌, ◌<◌, Bool, true, false, cond, ◌||◌, eqb, leb, ltb, List, [], ◌∷◌, length, is_some, Some, None, Ok, Err, Option, Result, sym, refl, ap, ◌∙◌, subst, arith}
+use Rattle.std.proofs.lemmas.Bool.{cond-true, cond-false, lt-ltb, le-ltb, leb-true, or_left, eqb-true}
 use Rattle.state_vector.specs.declared.keyed.Outcome.{Outcome}
-use Rattle.state_vector.specs.declared.keyed.Outcome.TheVariants.{Inserted, Replaced, Kept}
+use Rattle.state_vector.specs.declared.keyed.Outcome.TheVariants.{Inserted, Replaced}
 use Rattle.state_vector.specs.declared.keyed.TableFull.{TableFull}
 use Rattle.state_vector.specs.Tables.{always, answer, ascends, entered, full, held, outcome, updated}
 use Rattle.state_vector.proofs.Entering.{ascends_entered, length_entered}
@@ -47,13 +47,16 @@ module _ (own now : ℕ) where
   or_none false = refl
 
   pub seats_start : (before : List Record) (all es : List Entry) (new : List ℕ) → es ≡ all → new ≡ [] → ascends client_of before ≡ true → Seats before all new es
-  seats_start before all es new is none up = (before, record {
-    up = up;
-    new_up = ap (ascends id) none;
-    rest = ap (taken own now before) (sym is);
-    many = omega (arith, ap length none);
-    who = λ c. or_none (is_some (held_of c before)) ∙ sym (ap (λ l. is_some (held_of c before) || is_some (held id c l)) none);
-  })
+  seats_start before all es new is none up = (
+    before,
+    record {
+      up = up;
+      new_up = ap (ascends id) none;
+      rest = ap (taken own now before) (sym is);
+      many = omega (arith, ap length none);
+      who = λ c. or_none (is_some (held_of c before)) ∙ sym (ap (λ l. is_some (held_of c before) || is_some (held id c l)) none);
+    },
+  )
 
   -- an entry of a client that was held before, or that is new
   module _ (before : List Record) (all : List Entry) (here : List Record) (new : List ℕ) (es : List Entry) (e : Entry) (others : List Entry) (s : Seated before all here new es) (is : es ≡ e ∷ others) where
@@ -81,27 +84,32 @@ module _ (own now : ℕ) where
     same_or false b false h = sym (or_none b)
 
     pub seats_known : is_some (held_of e.client before) ≡ true → Seats before all new others
-    seats_known k = (received own now here e, record {
-      up = ascends_received own now here e s.up;
-      new_up = s.new_up;
-      rest = rest_then;
-      many = long_then ∙ cond-true (is_some (held_of e.client here)) (length here) (length here + 1) (s.who e.client ∙ or_left (is_some (held_of e.client before)) (is_some (held id e.client new)) k) ∙ s.many;
-      who = λ c. who_is_then c ∙ ap (λ b. b || eqb e.client c) (s.who c) ∙ same_or (is_some (held_of c before)) (is_some (held id c new)) (eqb e.client c) (λ q. subst (λ n. is_some (held_of n before) ≡ true) (eqb-true e.client c q) k);
-    })
+    seats_known k = (
+      received own now here e,
+      record {
+        up = ascends_received own now here e s.up;
+        new_up = s.new_up;
+        rest = rest_then;
+        many = long_then ∙ cond-true (is_some (held_of e.client here)) (length here) (length here + 1) (s.who e.client ∙ or_left (is_some (held_of e.client before)) (is_some (held id e.client new)) k) ∙ s.many;
+        who = λ c. who_is_then c ∙ ap (λ b. b || eqb e.client c) (s.who c) ∙ same_or (is_some (held_of c before)) (is_some (held id c new)) (eqb e.client c) (λ q. subst (λ n. is_some (held_of n before) ≡ true) (eqb-true e.client c q) k);
+      },
+    )
 
     new_then : List ℕ
     new_then = entered id always new e.client
 
     pub seats_entered : is_some (held_of e.client before) ≡ false → Seats before all (entered id always new e.client) others
     seats_entered k =
-        let w : is_some (held_of e.client here) ≡ is_some (held id e.client new) = s.who e.client ∙ ap (λ b. b || is_some (held id e.client new)) k in
-        (received own now here e, record {
-          up = ascends_received own now here e s.up;
-          new_up = ascends_entered id always new e.client s.new_up;
-          rest = rest_then;
-          many = long_then ∙ by (is_some (held_of e.client here)) (is_some (held id e.client new)) w ∙ ap (λ n. length before + n) (sym (length_then id always new e.client s.new_up));
-          who = λ c. who_is_then c ∙ ap (λ b. b || eqb e.client c) (s.who c) ∙ or_swap (is_some (held_of c before)) (is_some (held id c new)) (eqb e.client c) ∙ ap (λ b. is_some (held_of c before) || b) (sym (who_then id always new e.client c s.new_up));
-        })
+        let w : is_some (held_of e.client here) ≡ is_some (held id e.client new) = s.who e.client ∙ ap (λ b. b || is_some (held id e.client new)) k in (
+          received own now here e,
+          record {
+            up = ascends_received own now here e s.up;
+            new_up = ascends_entered id always new e.client s.new_up;
+            rest = rest_then;
+            many = long_then ∙ by (is_some (held_of e.client here)) (is_some (held id e.client new)) w ∙ ap (λ n. length before + n) (sym (length_then id always new e.client s.new_up));
+            who = λ c. who_is_then c ∙ ap (λ b. b || eqb e.client c) (s.who c) ∙ or_swap (is_some (held_of c before)) (is_some (held id c new)) (eqb e.client c) ∙ ap (λ b. is_some (held_of c before) || b) (sym (who_then id always new e.client c s.new_up));
+          },
+        )
       where
         by : (a b : Bool) → a ≡ b → cond a (length here) (length here + 1) ≡ length before + cond b (length new) (length new + 1)
         by true true q = s.many

@@ -1,5 +1,5 @@
 -- A walk over the entries of an update: what is still to be taken comes to what all of them come to.
-use Rattle.std.proofs.Common.{◌≡◌, ℕ, List, [], ◌∷◌, true, Ok, sym, refl, ap, ◌∙◌, subst}
+use Rattle.std.proofs.Common.{◌≡◌, ℕ, List, ◌∷◌, true, Ok, sym, refl, ap, ◌∙◌, subst}
 use Rattle.state_vector.specs.Tables.{ascends}
 use Rattle.message.specs.Presence.{Entry}
 use Rattle.awareness.specs.declared.change.Change.{Change}

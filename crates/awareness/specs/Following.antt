@@ -1,7 +1,7 @@
 -- The own record, followed through an update by its clock and whether it is live.
 --   stands     the clock of a record, and whether it is live
 --   followed   the same after an own entry
-use Rattle.std.specs.Prelude.{ℕ, ◌+◌, Bool, true, not, cond, ◌&&◌, Some, None, Option, is_some, nat_le, nat_lt}
+use Rattle.std.specs.Prelude.{◌+◌, true, not, cond, ◌&&◌, Some, None, Option, is_some, nat_le, nat_lt}
 use Rattle.std.specs.Option.{option_map}
 use Rattle.message.specs.Presence.{Entry}
 use Rattle.awareness.specs.declared.standing.Standing.{Standing}

@@ -1,8 +1,8 @@
-use Rattle.std.proofs.Common.{rules, ◌≡◌, ℕ, true, false, Some, Ok, Err, sym, ap, ◌∙◌, subst}
+use Rattle.std.proofs.Common.{rules, ◌≡◌, true, false, ◌∙◌, subst}
 use Rattle.state_vector.specs.Tables.{ascends}
 use Rattle.awareness.specs.Calls.{past_end}
 use Rattle.awareness.specs.Following.{stands}
-use Rattle.awareness.specs.Record.{client_of, held_of, Writable}
+use Rattle.awareness.specs.Record.{client_of, held_of}
 use Rattle.awareness.proofs.Following.{follows_start, follows_own, follows_end, follows_other, follows_done, low_of_writable}
 use Rattle.awareness.proofs.awareness.Awareness.judge_own.Goals as goal
 

@@ -1,7 +1,6 @@
-use Rattle.std.proofs.Common.{rules, ◌≡◌, ℕ, ◌+◌, ◌≤◌, length, is_some, true, sym, ap, ◌∙◌, subst, arith}
-use Rattle.state_vector.specs.Tables.{ascends, outcome, updated}
-use Rattle.awareness.specs.Record.{client_of, held_of}
-use Rattle.awareness.specs.Taking.{taken}
+use Rattle.std.proofs.Common.{rules, ◌≡◌, ◌+◌, ◌≤◌, length, true, ◌∙◌, subst, arith}
+use Rattle.state_vector.specs.Tables.{ascends}
+use Rattle.awareness.specs.Record.{client_of}
 use Rattle.awareness.proofs.Seating.{room_passes, length_most, seats_start, seats_known, seats_put, seats_none, seats_fit, seats_fail}
 use Rattle.awareness.proofs.awareness.Awareness.judge_room.Goals as goal
 

@@ -1,4 +1,4 @@
-use Rattle.std.proofs.Common.{◌≡◌, ℕ}
+use Rattle.std.proofs.Common.{ℕ}
 use Rattle.awareness.proofs.Seating.{Seats}
 use Rattle.awareness.proofs.awareness.Awareness.judge_room.Given as goal
 

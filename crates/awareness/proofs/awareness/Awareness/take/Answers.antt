@@ -3,7 +3,7 @@ use Rattle.state_vector.specs.Tables.{ascends}
 use Rattle.awareness.specs.Changes.{changes, noted}
 use Rattle.awareness.specs.Record.{client_of}
 use Rattle.awareness.specs.Taking.{taken}
-use Rattle.awareness.proofs.Walking.{Left, all_left, first_passes, others_left}
+use Rattle.awareness.proofs.Walking.{all_left, first_passes, others_left}
 use Rattle.awareness.proofs.awareness.Awareness.take.Goals as goal
 
 pub loop-e-init : goal.loop-e-init
