@@ -1,2 +1,1 @@
-pub mod ByteOrder
-pub mod Slots
+pub mod MakingSlots

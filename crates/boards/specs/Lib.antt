@@ -1,3 +1,6 @@
 pub mod CountBoard
-pub mod SlotBoard
 pub mod Counts
+pub mod SlotBoard
+pub mod ByteOrder
+pub mod SlotLaid
+pub mod Slots
