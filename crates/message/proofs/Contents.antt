@@ -14,6 +14,7 @@ use Rattle.state_vector.specs.Vector.{vector_entries}
 use Rattle.state_vector.proofs.Spelt.{exact_vector}
 use Rattle.message.specs.Message.{Said, step1, step2, update, awareness, denied, granted, query, custom, message, contents}
 use Rattle.message.specs.Messages.{whole, refused, cut, next, found, judged}
+use Rattle.message.specs.Owned.{state_text}
 use Rattle.message.specs.Presence.{Entry, state_of, presence_entry, presence}
 use Rattle.message.specs.Spelling.{Tagged, MessageIs, step1_is, step2_is, update_is, awareness_is, denied_is, granted_is, query_is, custom_is, Shows, PresenceEntryIs, PresenceIs, Holds, MessagesAreAsSpelt}
 use Rattle.message.proofs.Spelt.{exact_message}
@@ -25,6 +26,14 @@ shown bs = by (bytes_eq bs (codes "null")) refl
     by : (b : Bool) → bytes_eq bs (codes "null") ≡ b → Shows bs (cond b None (Some bs))
     by true e = (bytes_eq-Decides bs (codes "null")).0 e
     by false e = (refl, λ i. cc ((bytes_eq-Decides bs (codes "null")).1 i, e))
+
+-- and the text that says it is that text
+pub state_says : (bs : List ℕ) → state_text (state_of bs) ≡ bs
+state_says bs = by (bytes_eq bs (codes "null")) refl
+  where
+    by : (b : Bool) → bytes_eq bs (codes "null") ≡ b → state_text (cond b None (Some bs)) ≡ bs
+    by true e = sym ((bytes_eq-Decides bs (codes "null")).0 e)
+    by false e = refl
 
 state_is_lem : (bs : List ℕ) (s : Option (List ℕ)) → Shows bs s → state_of bs ≡ s
 state_is_lem bs None h = rw ((bytes_eq-Decides bs (codes "null")).1 h) refl
@@ -43,7 +52,7 @@ Clocked id = Then (NumberIs (2 ^ 32 - 1)) (λ n y c. (text : List ℕ) × (made 
 clocked : (id : ℕ) → Exactly (λ s. thence (var_uint (2 ^ 32 - 1) s) (λ n after. named (made id n) (presence_text_in after))) (Clocked id)
 clocked id = exact_thence (var_uint (2 ^ 32 - 1)) (λ n after. named (made id n) (presence_text_in after)) (exact_number (2 ^ 32 - 1)) (λ n. exact_named (made id n) presence_text_in exact_presence_text)
 
-exact_presence_entry : Exactly presence_entry PresenceEntryIs
+pub exact_presence_entry : Exactly presence_entry PresenceEntryIs
 exact_presence_entry = exact_as (exact_thence client_id_in (λ id s. thence (var_uint (2 ^ 32 - 1) s) (λ n after. named (made id n) (presence_text_in after))) exact_client_id clocked) there back
   where
     there : (e : Entry) (bs : List ℕ) → Then ClientIs Clocked e bs → PresenceEntryIs e bs

@@ -1,5 +1,6 @@
 pub mod Spelt
 pub mod Contents
+pub mod Arrivals
 pub mod Rows
 pub mod Sending
 pub mod Sound

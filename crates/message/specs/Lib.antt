@@ -1,4 +1,5 @@
 pub mod Presence
+pub mod Arrived
 pub mod Message
 pub mod Messages
 pub mod Reader

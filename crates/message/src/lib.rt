@@ -1,6 +1,7 @@
 // Messages of the sync protocol, read from bytes without a copy.
 #![tactic(auto)]
 
+pub mod arrived;
 pub mod laws;
 pub mod message;
 pub mod messages;

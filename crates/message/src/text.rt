@@ -31,18 +31,24 @@ impl PresenceText {
         ensures { result ≡ kept_text text.now }
     {
         check_presence_text(text)?;
-        Ok(PresenceText {
+        Ok(PresenceText::passed(text))
+    }
+
+    // A copy of bytes that have been judged.
+    pub(crate) fn passed(text: &[u8]) -> PresenceText
+        requires { presence_text text.now ≡ Ok tt }
+        ensures { result ≡ text.now }
+    {
+        PresenceText {
             bytes: ArrayVec::try_from(text).unwrap(),
-        })
+        }
     }
 
     // A copy of the text, which cannot fail. By hand, since `Clone` answers that memory may be wanting, and nothing is allocated here.
     pub fn copy(&self) -> PresenceText
         ensures { result ≡ self.now }
     {
-        PresenceText {
-            bytes: ArrayVec::try_from(self.as_bytes()).unwrap(),
-        }
+        PresenceText::passed(self.as_bytes())
     }
 
     // The bytes of the text.

@@ -8,6 +8,7 @@ ghost use Rattle.message.specs.Owned.{owned_entry};
 ghost use Rattle.message.specs.Presence.{entry_is};
 ghost use Rattle.message.specs.Writing.{Readable};
 
+use crate::arrived::ArrivedEntry;
 use crate::owned::owned_state;
 use crate::presence::PresenceEntry;
 use crate::text::PresenceText;
@@ -50,6 +51,21 @@ impl Presence {
         })
     }
 
+    // A copy of an entry that has been read and so was judged, which cannot fail.
+    pub fn of(e: &ArrivedEntry<'_>) -> Presence
+        ensures { result ≡ e.now }
+    {
+        let state = match e.state() {
+            None => None,
+            Some(text) => Some(PresenceText::passed(text)),
+        };
+        Presence {
+            client: e.client(),
+            clock: e.clock(),
+            state,
+        }
+    }
+
     // A copy of what it says, which cannot fail; as `PresenceText::copy`, and no `Clone`.
     pub fn copy(&self) -> Presence
         ensures { result ≡ self.now }
@@ -71,6 +87,14 @@ impl Presence {
         ensures { result ≡ self.now.clock }
     {
         self.clock
+    }
+
+    // Says the same at another clock.
+    pub fn set_clock(&mut self, clock: u32)
+        ensures { self.new ≡ record { client = self.old.client; clock = clock; state = self.old.state } }
+    {
+        let Presence { clock: held, .. } = self;
+        *held = clock;
     }
 
     // What it shows; all that it says can be read again.

@@ -1,0 +1,6 @@
+pub mod Record
+pub mod Taking
+pub mod Changes
+pub mod Calls
+pub mod Faults
+pub mod Newest

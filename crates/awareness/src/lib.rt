@@ -1,0 +1,9 @@
+// Presence: what a hub holds of each client, what updates do to it, and the lists that tell of it.
+#![tactic(auto)]
+
+pub mod change;
+pub mod clock;
+pub mod fault;
+pub mod laws;
+pub mod record;
+pub mod awareness;

@@ -1,0 +1,92 @@
+// What a hub holds of a client.
+ghost use Rattle.std.specs.Prelude.{◌≡◌, ℕ, List, Option, is_some};
+ghost use Rattle.std.specs.Option.{option_copied};
+ghost use Rattle.message.specs.Writing.{presence_entry_out};
+ghost use Rattle.awareness.specs.Record.{above, outranks, entry_of, Writable};
+ghost use Rattle.std.proofs.Common.{rules};
+
+use encoding::entries_out::Entry;
+use encoding::sink::{BufferTooShort, Sink};
+use message::text::PresenceText;
+use message::update::Presence;
+use state_vector::keyed::Keyed;
+use state_vector::standing::Standing;
+use std::marker::Model;
+
+// What a client says of itself, and the time of its last change. Its state is null, which is none, or a live text.
+#[derive(Default, Drop)]
+pub struct Record {
+    pub(crate) presence: Presence,
+    pub(crate) time: u64,
+}
+
+impl Model for Record {
+    ghost use Rattle.awareness.specs.Record.{Record as Held};
+
+    ghost Value = { Held };
+
+    ghost view = { λ r. record { client = r.presence.client; clock = r.presence.clock; time = r.time; state = r.presence.state } };
+}
+
+impl Record {
+    // Its clock.
+    pub fn clock(&self) -> u32
+        ensures { result ≡ self.now.clock }
+    {
+        self.presence.clock()
+    }
+
+    // The reading at which it was last inserted, replaced or raised.
+    pub fn time(&self) -> u64
+        ensures { result ≡ self.now.time }
+    {
+        self.time
+    }
+
+    // What it shows; all that it says can be written and read again.
+    pub fn state(&self) -> Option<&PresenceText>
+        ensures shows { option_copied result ≡ self.now.state }
+        ensures writable { Writable self.now }
+    {
+        self.presence.state()
+    }
+}
+
+impl Keyed for Record {
+    ghost key = { λ r. r.client };
+
+    fn client(&self) -> u64 {
+        self.presence.client()
+    }
+}
+
+impl Standing for Record {
+    ghost above = { above };
+
+    ghost irreflexive = { Prim.search rules };
+
+    ghost asymmetric = { Prim.search rules };
+
+    ghost third = { Prim.search rules };
+
+    // A higher clock stands above, and at the same clock null above a live text.
+    fn stands_above(&self, held: &Record) -> bool {
+        outranks(self.clock(), self.state().is_some(), held)
+    }
+}
+
+// Whether a newcomer, at its clock and live or not, stands above the record held.
+pub(crate) fn outranks(clock: u32, live: bool, held: &Record) -> bool
+    ensures { (s : Option (List ℕ)) → is_some s ≡ live → result ≡ outranks clock s held.now.clock held.now.state }
+{
+    clock > held.clock() || clock == held.clock() && !live && held.state().is_some()
+}
+
+impl Entry for Record {
+    ghost out = { λ r. presence_entry_out (entry_of r) };
+
+    // As what it says of its client.
+    fn write<S: Sink>(&self, sink: &mut S) -> Result<(), BufferTooShort> {
+        self.presence.write(sink)
+    }
+}
