@@ -1,1 +1,3 @@
+pub mod CountExamples
 pub mod MakingSlots
+pub mod SlotExamples
