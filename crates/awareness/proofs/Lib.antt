@@ -1,1 +1,12 @@
 pub mod Entered
+pub mod Coming
+pub mod Judging
+pub mod Walking
+pub mod Seating
+pub mod Following
+pub mod Tests
+pub mod Received
+pub mod Lists
+pub mod Own
+pub mod Times
+pub mod Newest

@@ -1,5 +1,7 @@
 -- What each call answers and leaves, over the records of before.
 --   past_end    a clock that would have to rise past 32 bits
+--   room_for    room for so many records
+--   rise_for    a clock that had to rise could
 --   judged      whether these records can be held
 --   Settled     an answer, the records then, and what entries did
 --   settled_at   the records where they can be held, or else those of before
@@ -13,7 +15,7 @@
 --   lists_over   a list over the caller's places
 --   all_known    each of the clients is held
 --   listing      the update of some clients, or why there is none
-use Rattle.std.specs.Prelude.{◌≡◌, ℕ, ◌^◌, Bool, true, false, cond, List, [], ◌∷◌, ◌++◌, map, filter, length, drop, Some, None, Ok, Err, Option, Result, is_none, is_ok, is_some, ◌==◌, nat_le, nat_lt, ◌||◌, ◌&&◌}
+use Rattle.std.specs.Prelude.{◌≡◌, ℕ, ◌^◌, Bool, true, false, cond, List, [], ◌∷◌, map, filter, length, Some, None, Ok, Err, Option, Result, is_some, ◌==◌, nat_le, nat_lt, ◌||◌}
 use Rattle.std.specs.List.{list_all}
 use Rattle.std.specs.Result.{result_and}
 use Rattle.encoding.specs.declared.fault.WireFault.{WireFault}
@@ -26,8 +28,8 @@ use Rattle.awareness.specs.declared.fault.AwarenessFault.TheVariants.{Wire, Pres
 use Rattle.awareness.specs.declared.fault.PresenceFault.{PresenceFault}
 use Rattle.awareness.specs.declared.fault.PresenceFault.TheVariants.{TooManyClients, ClockAtEnd, ClientNotFound}
 use Rattle.awareness.specs.declared.change.Change.{Change}
-use Rattle.awareness.specs.Changes.{changes, listed}
-use Rattle.awareness.specs.Record.{Record, client_of, entry_of, held_of, live}
+use Rattle.awareness.specs.Changes.{changes}
+use Rattle.awareness.specs.Record.{Record, entry_of, held_of, live}
 use Rattle.awareness.specs.Taking.{taken, set_to, removed, stored}
 
 -- a held clock that has risen past 32 bits
@@ -35,9 +37,17 @@ abbrev pub past_end : Option Record → Bool
 past_end None = false
 past_end (Some r) = nat_le (2 ^ 32) r.clock
 
--- whether these records can be held, of which the clock of client c may have had to rise: 64 clients first, then that clock
+-- whether so many records can be held
+abbrev pub room_for : List Record → Result (Unit {0}) PresenceFault
+room_for rows = cond (nat_lt 64 (length rows)) (Err TooManyClients) (Ok tt)
+
+-- whether a clock that had to rise could
+abbrev pub rise_for : Option Record → Result (Unit {0}) PresenceFault
+rise_for o = cond (past_end o) (Err ClockAtEnd) (Ok tt)
+
+-- whether these records can be held, of which the clock of client c may have had to rise: room for all first, then that clock
 abbrev pub judged : ℕ → List Record → Result (Unit {0}) PresenceFault
-judged c rows = cond (nat_lt 64 (length rows)) (Err TooManyClients) (cond (past_end (held_of c rows)) (Err ClockAtEnd) (Ok tt))
+judged c rows = result_and (room_for rows) (rise_for (held_of c rows))
 
 -- an answer, the records then, and what entries did
 pub record Settled : Type 0 where

@@ -2,6 +2,8 @@
 --   same        a text is held, and it is this one
 --   taken_over    what an entry does that takes the place of a record
 --   change_by    what an entry does to what is held of its client
+--   comes        the record that comes in with an entry, if one does
+--   come_in      the records after it
 --   changes      what each of a row of entries does, with its client
 --   is_added, is_updated, is_changed, is_removed   which lists a change is in
 --   listed       the clients of some of the changes, ascending, each once
@@ -14,7 +16,7 @@ use Rattle.message.specs.Presence.{Entry}
 use Rattle.awareness.specs.declared.change.Change.{Change}
 use Rattle.awareness.specs.declared.change.Change.TheVariants.{Kept, Hidden, Added, Repeated, Changed, Raised, Removed}
 use Rattle.awareness.specs.Record.{Record, outranks, held_of}
-use Rattle.awareness.specs.Taking.{defies, received}
+use Rattle.awareness.specs.Taking.{defies, newcomer, received, stored}
 
 -- a text is held, and it has these bytes
 abbrev pub same : Option (List ℕ) → List ℕ → Bool
@@ -30,6 +32,25 @@ taken_over held (Some bs) = cond (same held bs) Repeated Changed
 abbrev pub change_by : ℕ → Option Record → Entry → Change
 change_by own None e = cond (is_some e.state) Added Hidden
 change_by own (Some r) e = cond (defies own r e) Raised (cond (outranks e.clock e.state r.clock r.state) (taken_over r.state e.state) Kept)
+
+-- the record that comes in with a change; none where what is held stays
+abbrev pub comes_by : Change → Record → Option Record
+comes_by Kept r = None
+comes_by Hidden r = Some r
+comes_by Added r = Some r
+comes_by Repeated r = Some r
+comes_by Changed r = Some r
+comes_by Raised r = Some r
+comes_by Removed r = Some r
+
+-- the same of an entry, by what is held of its client
+abbrev pub comes : ℕ → ℕ → Option Record → Entry → Option Record
+comes own now o e = comes_by (change_by own o e) (newcomer own now o e)
+
+-- the records after one came in, or none did
+abbrev pub come_in : List Record → Option Record → List Record
+come_in rows None = rows
+come_in rows (Some r) = stored rows r
 
 -- what each of a row of entries does, with its client
 abbrev pub changes : ℕ → ℕ → List Record → List Entry → List (ℕ × Change)

@@ -2,5 +2,6 @@ pub mod Record
 pub mod Taking
 pub mod Changes
 pub mod Calls
+pub mod Following
 pub mod Faults
 pub mod Newest

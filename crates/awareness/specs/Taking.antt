@@ -1,6 +1,7 @@
 -- What entries that come to a hub do to its records. The hub has a client id of its own, and a time at which the entries come.
 --   plain      an entry as a record
 --   defies     the own record, live, meets a null with a clock not below its own
+--   rises      a clock that has to rise can
 --   lifted     it keeps its text, above the null
 --   met        the record that is held after an entry met one
 --   newcomer   the record that comes in with an entry
@@ -10,7 +11,7 @@
 --   set_to       the own record after it was given a state
 --   removed      a record after it was made null
 --   stored       the records after one came that always takes its place
-use Rattle.std.specs.Prelude.{ℕ, ◌+◌, Bool, cond, ◌&&◌, List, [], ◌∷◌, Some, None, Option, is_none, is_some, ◌==◌, nat_le}
+use Rattle.std.specs.Prelude.{ℕ, ◌+◌, ◌^◌, Bool, true, not, cond, ◌&&◌, ◌||◌, List, [], ◌∷◌, Some, None, Option, is_none, is_some, ◌==◌, nat_le, nat_lt}
 use Rattle.state_vector.specs.Tables.{always, better, entered}
 use Rattle.message.specs.Presence.{Entry}
 use Rattle.awareness.specs.Record.{Record, client_of, above, held_of}
@@ -26,6 +27,11 @@ defies own r e = (r.client == own) && (is_some r.state && (is_none e.state && na
 -- it keeps its text, one clock above the null
 abbrev pub lifted : ℕ → Record → Entry → Record
 lifted now r e = record { client = r.client; clock = e.clock + 1; time = now; state = r.state }
+
+-- the clock can rise where an entry makes it, and no further than 32 bits
+abbrev pub rises : ℕ → Option Record → Entry → Bool
+rises own None e = true
+rises own (Some r) e = not (defies own r e) || nat_lt (e.clock + 1) (2 ^ 32)
 
 -- the record that is held after an entry of its client met it
 abbrev pub met : ℕ → ℕ → Record → Entry → Record

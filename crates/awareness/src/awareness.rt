@@ -5,15 +5,19 @@ ghost use Rattle.std.specs.Option.{option_copied};
 ghost use Rattle.std.specs.Result.{result_and, result_map_both};
 ghost use Rattle.encoding.specs.Fields.{client_id};
 ghost use Rattle.state_vector.specs.Tables.{ascends};
+ghost use Rattle.awareness.specs.Calls.{judged, rise_for, room_for};
 ghost use Rattle.awareness.specs.Record.{Record, Clients, client_of, held_of, Writable};
-ghost use Rattle.awareness.specs.Changes.{change_by, same};
-ghost use Rattle.awareness.specs.Taking.{defies, met, received};
+ghost use Rattle.awareness.specs.Changes.{change_by, changes, comes, noted, same};
+ghost use Rattle.awareness.specs.Taking.{defies, rises, received, taken};
 
 use crate::change::Change;
+use crate::fault::PresenceFault;
+use crate::observer::Observer;
 use crate::record::{Record, outranks};
+use crate::standing::Standing;
 use encoding::fault::WireFault;
 use encoding::read::{MAX_ENTRIES, check_client_id};
-use message::arrived::ArrivedEntry;
+use message::arrived::{ArrivedEntry, ArrivedUpdate};
 use message::update::Presence;
 use state_vector::keyed::{Keyed, Table};
 use std::marker::Model;
@@ -26,15 +30,16 @@ pub struct Awareness {
 }
 
 impl Model for Awareness {
-    ghost use Rattle.std.specs.Prelude.{◌^◌, ◌<◌};
+    ghost use Rattle.std.specs.Prelude.{◌≡◌, ◌^◌, ◌<◌, true};
     ghost use Rattle.std.specs.List.{All};
-    ghost use Rattle.awareness.specs.Record.{Clients, Writable};
+    ghost use Rattle.state_vector.specs.Tables.{ascends};
+    ghost use Rattle.awareness.specs.Record.{Clients, client_of, Writable};
 
     ghost Value = { Clients };
 
     ghost view = { λ a. record { own = a.own; rows = a.table } };
 
-    ghost invariant = { λ a. (a.own < 2 ^ 53) × All Writable a.table };
+    ghost invariant = { λ a. (a.own < 2 ^ 53) × (ascends client_of a.table ≡ true) × All Writable a.table };
 }
 
 // Whether the record is the own one, live, and meets a null with a clock not below its own.
@@ -113,5 +118,86 @@ impl Awareness {
     {
         check_client_id(client)?;
         Ok(self.table.get(client))
+    }
+
+    // What an entry does, and the record that comes in with it.
+    fn meet(&self, e: &ArrivedEntry<'_>, now: u64) -> (Change, Option<Record>)
+        requires rises { rises self.now.own (held_of e.now.client self.now.rows) e.now ≡ true }
+        ensures change { result.0 ≡ change_by self.now.own (held_of e.now.client self.now.rows) e.now }
+        ensures record { result.1 ≡ comes self.now.own now (held_of e.now.client self.now.rows) e.now }
+    {
+        let held = self.table.get(e.client());
+        let change = change_by(self.own, held, e);
+        let record = match (change, held) {
+            (Change::Kept, _) => None,
+            (Change::Raised, Some(held)) => Some(held.raised(e.clock() + 1, now)),
+            _ => Some(Record::of(e, now)),
+        };
+        (change, record)
+    }
+
+    // Takes an entry that finds a place, and whose clock can rise where it has to.
+    fn receive(&mut self, e: &ArrivedEntry<'_>, now: u64) -> Change
+        requires room { length (received self.old.own now self.old.rows e.now) ≤ 64 }
+        requires rises { rises self.old.own (held_of e.now.client self.old.rows) e.now ≡ true }
+        ensures change { result ≡ change_by self.old.own (held_of e.now.client self.old.rows) e.now }
+        ensures rows { self.new.rows ≡ received self.old.own now self.old.rows e.now }
+        ensures own { self.new.own ≡ self.old.own }
+    {
+        let (change, record) = self.meet(e, now);
+        if let Some(record) = record {
+            // a look at a field brings in what is true of every record
+            let _passed = &record.time;
+            self.table.put(record).unwrap();
+        }
+        change
+    }
+
+    // Whether all clients would find a place.
+    fn judge_room(&self, update: &ArrivedUpdate<'_>) -> Result<(), PresenceFault>
+        ensures { (now : ℕ) → result ≡ room_for (taken self.now.own now self.now.rows update.now) }
+    {
+        if self.table.len() + update.len() <= MAX_ENTRIES {
+            return Ok(());
+        }
+        let mut new = Table::<u64, MAX_ENTRIES>::new();
+        for e in update.iter() {
+            if self.table.get(e.client()).is_none() {
+                new.put(e.client())?;
+            }
+        }
+        if self.table.len() + new.len() <= MAX_ENTRIES {
+            Ok(())
+        } else {
+            Err(PresenceFault::TooManyClients)
+        }
+    }
+
+    // Whether the own clock could rise where it would have to.
+    fn judge_own(&self, update: &ArrivedUpdate<'_>) -> Result<(), PresenceFault>
+        ensures { (now : ℕ) → result ≡ rise_for (held_of self.now.own (taken self.now.own now self.now.rows update.now)) }
+    {
+        let mut own = self.table.get(self.own).map(Standing::of);
+        for e in update.iter() {
+            if e.client() == self.own {
+                own = Some(Standing::after(own, &e)?);
+            }
+        }
+        Ok(())
+    }
+
+    // Takes the entries of an update that was judged, and tells of each change.
+    fn take<O: Observer>(&mut self, update: &ArrivedUpdate<'_>, now: u64, seen: &mut O)
+        requires { judged self.old.own (taken self.old.own now self.old.rows update.now) ≡ Ok tt }
+        ensures rows { self.new.rows ≡ taken self.old.own now self.old.rows update.now }
+        ensures own { self.new.own ≡ self.old.own }
+        ensures seen { seen.new ≡ noted O.Observer.after seen.old (changes self.old.own now self.old.rows update.now) }
+    {
+        // a look at a field brings in that the records ascend
+        let _held = &self.own;
+        for e in update.iter() {
+            let change = self.receive(&e, now);
+            seen.note(e.client(), change);
+        }
     }
 }

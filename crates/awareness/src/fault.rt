@@ -1,10 +1,12 @@
 // Why a call of presence is refused.
 ghost use Rattle.std.specs.Prelude.{◌≡◌};
 ghost use Rattle.awareness.specs.declared.fault.AwarenessFault.TheVariants.{Wire, Presence, Short};
+ghost use Rattle.awareness.specs.declared.fault.PresenceFault.TheVariants.{TooManyClients};
 ghost use Rattle.awareness.specs.Faults.{presence_number, awareness_number};
 
 use encoding::fault::WireFault;
 use encoding::sink::BufferTooShort;
+use state_vector::keyed::TableFull;
 use thiserror::Error;
 
 // What the table of records cannot do.
@@ -27,6 +29,16 @@ impl PresenceFault {
         ensures { result ≡ presence_number self }
     {
         self as u8
+    }
+}
+
+// By hand, as clauses name the fault that `?` makes.
+impl From<TableFull> for PresenceFault {
+    ghost from_gives = { λ _ r. r ≡ TooManyClients };
+
+    // A full table has no place for one client more.
+    fn from(_full: TableFull) -> PresenceFault {
+        PresenceFault::TooManyClients
     }
 }
 

@@ -1,9 +1,11 @@
 // Presence: what a hub holds of each client, what updates do to it, and the lists that tell of it.
 #![tactic(auto)]
 
+pub mod awareness;
 pub mod change;
 pub mod clock;
 pub mod fault;
 pub mod laws;
+pub mod observer;
 pub mod record;
-pub mod awareness;
+mod standing;

@@ -3,10 +3,12 @@ ghost use Rattle.std.specs.Prelude.{◌≡◌, ℕ, List, Option, is_some};
 ghost use Rattle.std.specs.Option.{option_copied};
 ghost use Rattle.message.specs.Writing.{presence_entry_out};
 ghost use Rattle.awareness.specs.Record.{above, outranks, entry_of, Writable};
+ghost use Rattle.awareness.specs.Taking.{plain};
 ghost use Rattle.std.proofs.Common.{rules};
 
 use encoding::entries_out::Entry;
 use encoding::sink::{BufferTooShort, Sink};
+use message::arrived::ArrivedEntry;
 use message::text::PresenceText;
 use message::update::Presence;
 use state_vector::keyed::Keyed;
@@ -21,14 +23,38 @@ pub struct Record {
 }
 
 impl Model for Record {
-    ghost use Rattle.awareness.specs.Record.{Record as Held};
+    ghost use Rattle.awareness.specs.Record.{Record as Held, Writable};
 
     ghost Value = { Held };
 
     ghost view = { λ r. record { client = r.presence.client; clock = r.presence.clock; time = r.time; state = r.presence.state } };
+
+    ghost invariant = { λ r. Writable (record { client = r.presence.client; clock = r.presence.clock; time = r.time; state = r.presence.state }) };
 }
 
 impl Record {
+    // The record of an entry that came at a time.
+    pub(crate) fn of(e: &ArrivedEntry<'_>, now: u64) -> Record
+        ensures { result ≡ plain now e.now }
+    {
+        Record {
+            presence: Presence::of(e),
+            time: now,
+        }
+    }
+
+    // A copy of the record, raised to a clock at a time.
+    pub(crate) fn raised(&self, clock: u32, now: u64) -> Record
+        ensures { result ≡ record { client = self.now.client; clock = clock; time = now; state = self.now.state } }
+    {
+        let mut presence = self.presence.copy();
+        presence.set_clock(clock);
+        Record {
+            presence,
+            time: now,
+        }
+    }
+
     // Its clock.
     pub fn clock(&self) -> u32
         ensures { result ≡ self.now.clock }

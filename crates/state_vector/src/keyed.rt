@@ -17,6 +17,15 @@ pub trait Keyed {
         ensures { result ≡ key self.now };
 }
 
+// A client id alone, for a table of ids.
+impl Keyed for u64 {
+    ghost key = { λ n. n };
+
+    fn client(&self) -> u64 {
+        *self
+    }
+}
+
 // What became of an entry that came to a table.
 #[derive(Clone, Copy, Debug, PartialEq, Eq)]
 pub enum Outcome {

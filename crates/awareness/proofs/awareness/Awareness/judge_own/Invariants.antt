@@ -1,0 +1,7 @@
+use Rattle.std.proofs.Common.{ℕ}
+use Rattle.awareness.proofs.Following.{Follows}
+use Rattle.awareness.proofs.awareness.Awareness.judge_own.Given as goal
+
+-- the own record so far has this standing, whenever the entries came
+abbrev pub invariant-loop-e : goal.invariant-loop-e
+invariant-loop-e l = (now : ℕ) → Follows l.self.own now l.self.rows l.update l.own l.e-iterator
