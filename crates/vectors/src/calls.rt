@@ -2,6 +2,7 @@
 use crate::words::{Digits, parse_bytes, parse_update, parse_vector};
 use anyhow::bail;
 use boards::count_board::CountBoard;
+use boards::slot_board::SlotBoard;
 use document::fault::DocumentFault;
 use document::host::DocumentHost;
 use encoding::entries::Entries;
@@ -49,6 +50,7 @@ impl Answer {
             ["vector", bytes] => self.add_vector(bytes),
             ["presence", bytes] => self.add_presence(bytes),
             ["updates", "count", updates, since] => self.add_updates::<CountBoard>(updates, since),
+            ["updates", "slot", updates, since] => self.add_updates::<SlotBoard>(updates, since),
             ["write", "step1", entries] => self.add_written(&parse_vector(self.heap(), entries)?),
             ["write", "awareness", entries] => self.add_written(&parse_update(
                 self.heap(),
