@@ -1,2 +1,3 @@
-pub mod ByteOrder
-pub mod Slots
+pub mod CountExamples
+pub mod MakingSlots
+pub mod SlotExamples

@@ -2,7 +2,6 @@
 use Rattle.std.specs.Prelude.{◌≡◌, ℕ, ◌-◌, ◌^◌, ◌<◌, ◌≤◌, true, false, ◌&&◌, List, length, ◌++◌, Some, None, Ok, Option, unwrap_or, nat_lt, refl}
 use Rattle.std.proofs.Common.{ap, ◌∙◌, subst, rules, arith, length-append}
 use Rattle.std.proofs.lemmas.Bool.{ltb-true, ltb-false, le-ltb, and_parts}
-use Rattle.std.proofs.lemmas.Bool.Decides.{nat_tests}
 use Rattle.std.specs.List.{list_all}
 use Rattle.encoding.specs.Spelling.{Exactly, NumberIs, ClientIs}
 use Rattle.encoding.specs.Writing.{shortest, counted_out}
@@ -12,13 +11,11 @@ use Rattle.encoding.proofs.Shortest.{length_shortest}
 use Rattle.document.specs.Kind.{Lawful}
 use Rattle.state_vector.specs.Tables.{Order}
 use Rattle.state_vector.specs.Vector.{clock_of}
-use Rattle.joined_tables.specs.Joined.{Decided, HeldOff, sound}
+use Rattle.joined_tables.specs.Joined.{Decided, HeldOff}
 use Rattle.joined_tables.specs.TableKind.{Fair, clock_held}
-use Rattle.joined_tables.specs.Whole.{wholly}
-use Rattle.joined_tables.proofs.TableHosts.{table_within}
-use Rattle.joined_tables.proofs.TableLaws.{rows_back, rows_spelt, tables_lawful}
+use Rattle.joined_tables.proofs.TableLaws.{rows_spelt, tables_lawful}
 use Rattle.boards.specs.declared.count.Count.{Count}
-use Rattle.boards.specs.CountBoard.{client_of, outranks, keepable, board, count_in, count_out, count_rows, counts, counts_in, CountIs, CountsAre}
+use Rattle.boards.specs.CountBoard.{client_of, outranks, keepable, count_in, count_out, count_rows, counts, counts_in, CountIs, CountsAre}
 
 -- a count is read exactly where the bytes spell it
 exact_count_entry : Exactly count_in CountIs
@@ -81,21 +78,6 @@ count_fair = record {
 pub counts_are : (es : List Count) → length es ≤ 64 → list_all keepable es ≡ true → CountsAre es (counted_out count_out es)
 counts_are = rows_spelt count_rows count_fair exact_counts
 
--- counts that are written read back
-pub counts_back : (es : List Count) → length es ≤ 64 → list_all keepable es ≡ true → wholly (counts_in (counted_out count_out es)) ≡ Ok es
-counts_back = rows_back count_rows count_fair
-
 -- boards of counts keep the laws of documents
 pub counts_lawful : Lawful counts 64
 counts_lawful = tables_lawful count_rows count_fair 64 (omega arith)
-
--- a board's table is within its limit
-pub board_within : (xs : List Count) → length xs ≤ 64 → sound client_of keepable xs ≡ true → length (board xs).0 ≤ 64
-board_within xs = table_within count_rows 64 xs
-
--- which counts may be held
-pub kept_if : (e : Count) → e.client < 2 ^ 53 → 0 < e.count → e.count < 2 ^ 32 → keepable e ≡ true
-kept_if e known some narrow = grind (arith, nat_tests)
-
-pub dropped_if : (e : Count) → e.count ≡ 0 → keepable e ≡ false
-dropped_if e none = grind (arith, nat_tests)

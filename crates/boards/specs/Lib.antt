@@ -1,3 +1,8 @@
 pub mod CountBoard
-pub mod SlotBoard
 pub mod Counts
+pub mod CountLaws
+pub mod SlotBoard
+pub mod ByteOrder
+pub mod SlotLaid
+pub mod Slots
+pub mod SlotLaws

@@ -4,20 +4,24 @@
 --   client_of, outranks   the key of a slot, and which stands above which
 --   keepable     a slot that a board may hold
 --   slot_clock, slot_bytes   whether a number can be a slot's clock, and bytes its bytes
+--   slot_of       a slot of a client, a clock and bytes, or why there is none
 --   slot_in       a slot, read
 --   slot_out      a slot, as it is written
 --   as_vector     a slot as an entry of a vector
 --   is_news       a slot that whoever has the vector may lack
 --   slot_rows     slots as the entries of a kind of tables
 --   slots_in      the slots of an update as they stand in the bytes
+--   Board        the documents: tables of slots that may be held
+--   board        the board with these slots
 --   slots        the kind
 --   SlotIs, SlotsAre   which bytes spell which slot, and which update
 use Rattle.std.specs.Prelude.{◌≡◌, ℕ, ◌-◌, ◌^◌, ◌<◌, ◌≤◌, Bool, cond, ◌&&◌, List, ◌∷◌, ◌++◌, length, Ok, Err, Result, unwrap_or, nat_le, nat_lt}
 use Rattle.std.specs.Cmp.Lexicographic.{slice_cmp}
 use Rattle.std.specs.Ordering.{is_gt, nat_cmp}
+use Rattle.std.specs.Result.{result_and}
 use Rattle.encoding.specs.declared.fault.WireFault.{WireFault}
 use Rattle.encoding.specs.declared.fault.WireFault.TheVariants.{UnexpectedValue, TextTooLong}
-use Rattle.encoding.specs.Fields.{buffer, client_id_in}
+use Rattle.encoding.specs.Fields.{buffer, client_id, client_id_in}
 use Rattle.encoding.specs.Reading.{Reading, thence, named, passed}
 use Rattle.encoding.specs.Spelling.{NumberIs, BufferIs, ClientIs, CountedIs}
 use Rattle.encoding.specs.VarUint.{var_uint}
@@ -25,7 +29,7 @@ use Rattle.encoding.specs.Writing.{shortest, packed}
 use Rattle.state_vector.specs.declared.vector.VectorEntry.{VectorEntry}
 use Rattle.state_vector.specs.Vector.{clock_of}
 use Rattle.document.specs.Kind.{Kind}
-use Rattle.joined_tables.specs.TableKind.{Rows, rows_in, table_kind}
+use Rattle.joined_tables.specs.TableKind.{Rows, Table, rows_in, table_with, table_kind}
 
 -- a slot by its client, its clock and its bytes
 pub record Plain : Type 0 where
@@ -56,6 +60,10 @@ slot_clock n = cond (nat_lt 0 n) (Ok tt) (Err UnexpectedValue)
 -- whether bytes can be a slot's: there are 32 at most
 abbrev pub slot_bytes : List ℕ → Result (Unit {0}) WireFault
 slot_bytes bs = cond (nat_le (length bs) 32) (Ok tt) (Err TextTooLong)
+
+-- a slot of a client, a clock and bytes, or why there is none: the id is judged, then the clock, then the bytes
+abbrev pub slot_of : ℕ → ℕ → List ℕ → Result Plain WireFault
+slot_of id n bs = result_and (client_id id) (result_and (slot_clock n) (result_and (slot_bytes bs) (Ok (record { client = id; clock = n; bytes = bs }))))
 
 -- a slot's clock, read
 abbrev pub slot_clock_in : List ℕ → Reading ℕ
@@ -88,6 +96,14 @@ slot_rows = record { client = client_of; above = outranks; fine = keepable; read
 -- the slots of an update as they stand in the bytes
 abbrev pub slots_in : List ℕ → Reading (List Plain)
 slots_in s = rows_in slot_rows s
+
+-- the documents: tables of slots that may be held
+abbrev pub Board : Type 0
+Board = Table slot_rows
+
+-- the board with these slots
+abbrev pub board : List Plain → Board
+board xs = table_with slot_rows xs
 
 -- the kind of a slot board's documents
 abbrev pub slots : Kind

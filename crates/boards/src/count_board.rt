@@ -6,7 +6,6 @@ ghost use Rattle.joined_tables.specs.Whole.{wholly};
 ghost use Rattle.boards.specs.CountBoard.{client_of, outranks, keepable, count_in, board};
 
 use crate::count::Count;
-use crate::count_update::CountUpdate;
 use encoding::entries::Entries;
 use encoding::read::MAX_ENTRIES;
 use state_vector::keyed::{Table, TableFull};
@@ -63,12 +62,12 @@ impl CountBoard {
     }
 
     // Joins an update that has been read; refused where a count found no place, and then those before it have come in.
-    pub(crate) fn join(&mut self, update: CountUpdate<'_>) -> Result<(), TableFull>
-        requires { is_ok (wholly (entries count_in update.count update.counts.now)) ≡ true }
-        ensures fits { is_ok result ≡ nat_le (length (gathered client_of outranks keepable (board self.old.counts) (wholly (entries count_in update.entry.count update.entry.counts.now))).0) 64 }
-        ensures joins { OnOk result (board self.new.counts ≡ gathered client_of outranks keepable (board self.old.counts) (wholly (entries count_in update.entry.count update.entry.counts.now))) }
+    pub(crate) fn join(&mut self, update: Entries<'_, Count>) -> Result<(), TableFull>
+        requires { is_ok (wholly (entries count_in update.left update.rest.now)) ≡ true }
+        ensures fits { is_ok result ≡ nat_le (length (gathered client_of outranks keepable (board self.old.counts) (wholly (entries count_in update.entry.left update.entry.rest.now))).0) 64 }
+        ensures joins { OnOk result (board self.new.counts ≡ gathered client_of outranks keepable (board self.old.counts) (wholly (entries count_in update.entry.left update.entry.rest.now))) }
     {
-        for e in Entries::<Count>::new(update.counts, update.count) {
+        for e in update {
             self.offer(e.unwrap())?;
         }
         Ok(())

@@ -3,13 +3,14 @@ ghost use Rattle.joined_tables.proofs.TableHosts.{table_within};
 ghost use Rattle.boards.specs.CountBoard.{count_rows, counts, board};
 ghost use Rattle.boards.specs.Counts.{counts_lawful};
 
+use crate::count::Count;
 use crate::count_board::CountBoard;
 use crate::count_out::NewCounts;
-use crate::count_update::CountUpdate;
 use document::fault::DocumentFault;
 use document::host::DocumentHost;
 use encoding::entries_out::Chosen;
 use encoding::sink::BufferTooShort;
+use joined_tables::update::read_update;
 use joined_tables::vector_of::vector_of;
 use state_vector::vector::StateVector;
 
@@ -49,9 +50,9 @@ impl DocumentHost for CountBoard {
 
     // Joined in place where it surely fits; else a copy is joined first, and thrown away where the join is too large.
     fn take(&mut self, bytes: &[u8]) -> Result<(), DocumentFault> {
-        let update = CountUpdate::read(bytes)?;
-        if self.counts().len() + update.count <= Self::LIMIT as usize {
-            self.join(update)?;
+        let update = read_update::<Count>(bytes)?;
+        if self.counts().len() + update.left <= Self::LIMIT as usize {
+            self.join(update).unwrap();
             return Ok(());
         }
         let mut joined = self.copy();

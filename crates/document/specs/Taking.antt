@@ -1,6 +1,6 @@
 -- What taking bytes does to a document, and the laws of taking.
 --   document_number   the number of a document fault
---   fitted           the join where it is within the limit
+--   UnreadableWith   bytes that are unreadable, by the number of the fault
 --   answer_to         what is answered to a reading
 --   after            the document after a reading
 --   accepts          what is answered to bytes
@@ -11,6 +11,7 @@
 --   ExchangesJoin   an update for a vector of one's own, even an old one, gives the join
 use Rattle.std.specs.Prelude.{◌≡◌, ℕ, ◌≤◌, cond, List, Ok, Err, Result, nat_le}
 use Rattle.encoding.specs.declared.fault.WireFault.{WireFault}
+use Rattle.encoding.specs.Fault.{wire_number}
 use Rattle.document.specs.declared.fault.DocumentFault.{DocumentFault}
 use Rattle.document.specs.declared.fault.DocumentFault.TheVariants.{Unreadable, TooLarge}
 use Rattle.document.specs.Kind.{Kind}
@@ -19,6 +20,10 @@ use Rattle.document.specs.Kind.{Kind}
 abbrev pub document_number : DocumentFault → ℕ
 document_number (Unreadable f) = 12
 document_number TooLarge = 13
+
+-- bytes that are unreadable for a fault with this number
+abbrev pub UnreadableWith : Kind → ℕ → List ℕ → Type 0
+UnreadableWith k n bytes = (f : WireFault) × (k.reading bytes ≡ Err f) × (wire_number f ≡ n)
 
 module _ (k : Kind) (limit : ℕ) where
   -- what is answered where d stands and the update was read, or was not: unreadable, then too large

@@ -1,8 +1,8 @@
 -- Rows that are sent into a sink one after another.
-use Rattle.std.proofs.Common.{◌≡◌, ℕ, ◌+◌, ◌^◌, ◌<◌, ◌≤◌, List, [], ◌∷◌, ◌++◌, length, Ok, Err, Result, sym, refl, ap, ◌∙◌, subst, append_assoc, arith, length-append}
+use Rattle.std.proofs.Common.{◌≡◌, ℕ, ◌+◌, ◌^◌, ◌<◌, ◌≤◌, List, [], ◌∷◌, ◌++◌, length, Ok, Err, Result, sym, refl, ap, ◌∙◌, subst, append_assoc, arith, length-append, lt-ltb}
 use Rattle.encoding.specs.declared.sink.BufferTooShort.{BufferTooShort}
 use Rattle.encoding.specs.Sink.{Put}
-use Rattle.encoding.specs.Writing.{shortest, buffer_out, row_out, Writes, told, Sent}
+use Rattle.encoding.specs.Writing.{shortest, packed, buffer_out, row_out, Writes, told, Sent}
 use Rattle.encoding.proofs.Rows.{buffer_writes}
 use Rattle.encoding.proofs.Runs.{runs_append, put_then, put_short}
 
@@ -21,6 +21,26 @@ module _ {S : Type 0} (room : S → ℕ) (step : S → ℕ → S → Type 0) whe
   pub sent_then : (s m t : S) (xs ys : List ℕ) (u : Unit {0}) (r : Result (Unit {0}) BufferTooShort) → Sent room step s (Ok xs) (Ok u) m → Sent room step m (Ok ys) r t → Sent room step s (Ok (xs ++ ys)) r t
   sent_then s m t xs ys u (Ok v) p q = (omega (arith, p.0, q.0, length-append xs ys), runs_append room step s m t xs ys p.1 q.1)
   sent_then s m t xs ys u (Err e) p q = omega (arith, p.0, q, length-append xs ys)
+
+  -- two numbers, one after the other
+  pub numbers_sent : (s m t : S) (n k : ℕ) (u : Unit {0}) (r : Result (Unit {0}) BufferTooShort) → Put room step s (shortest n) (Ok u) m → Put room step m (shortest k) r t → Sent room step s (Ok (shortest n ++ shortest k)) r t
+  numbers_sent s m t n k u r p q = sent_then s m t (shortest n) (shortest k) u r p (put_sent m t (shortest k) r q)
+
+  -- a buffer that is short enough is its bytes
+  pub buffer_goes : (s t : S) (bs : List ℕ) (r : Result (Unit {0}) BufferTooShort) → length bs < 2 ^ 32 → Writes room step s (buffer_out bs) (told r) t → Sent room step s (Ok (packed bs)) r t
+  buffer_goes s t bs r l w = by r (rw (lt-ltb (length bs) (2 ^ 32) l) at w)
+    where
+      by : (r : Result (Unit {0}) BufferTooShort) → Writes room step s (Ok (packed bs)) (told r) t → Sent room step s (Ok (packed bs)) r t
+      by (Ok u) w = w
+      by (Err e) w = w.1
+
+  -- two numbers and such a buffer, by what they are equal to
+  pub numbers_and_buffer : (s l m t : S) (a b n k : ℕ) (bs cs : List ℕ) (u v : Unit {0}) (r : Result (Unit {0}) BufferTooShort) → n ≡ a → k ≡ b → cs ≡ bs → length bs < 2 ^ 32 → Put room step s (shortest n) (Ok u) l → Put room step l (shortest k) (Ok v) m → Writes room step m (buffer_out cs) (told r) t → Sent room step s (Ok (shortest a ++ (shortest b ++ packed bs))) r t
+  numbers_and_buffer s l m t a b n k bs cs u v r i j e few p q w =
+      let first = subst (λ x. Put room step s (shortest x) (Ok u) l) i p in
+      let second = subst (λ x. Put room step l (shortest x) (Ok v) m) j q in
+      let third = buffer_goes m t bs r few (subst (λ x. Writes room step m (buffer_out x) (told r) t) e w) in
+      sent_then s l t (shortest a) (shortest b ++ packed bs) u r first (sent_then l m t (shortest b) (packed bs) v r second third)
 
   -- no room for the first row is none for both
   pub sent_short : (s t v : S) (xs ys : List ℕ) (e : BufferTooShort) → Sent room step s (Ok xs) (Err e) t → Sent room step s (Ok (xs ++ ys)) (Err e) v

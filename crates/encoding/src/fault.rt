@@ -22,8 +22,8 @@ pub enum WireFault {
     // more than 64 entries are declared
     #[error("more than 64 entries are declared")]
     TooManyEntries = 5,
-    // a presence text of more than 256 bytes
-    #[error("a presence text is longer than 256 bytes")]
+    // a presence text of more than 256 bytes, or a slot of more than 32
+    #[error("a presence text has more than 256 bytes or a slot more than 32")]
     TextTooLong = 6,
 }
 

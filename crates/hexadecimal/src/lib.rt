@@ -10,6 +10,7 @@ use std::alloc::{AllocError, AllocFailed, Global};
 use std::error::Error;
 use std::fmt;
 
+pub mod input;
 pub mod lines;
 
 // Why a line is no row of bytes; a column is counted from 1.

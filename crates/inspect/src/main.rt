@@ -3,10 +3,10 @@
 
 use crate::report::Report;
 use anyhow::bail;
+use hexadecimal::input::read_input;
 use hexadecimal::lines::Lines;
-use std::io::Read;
-use std::rt::{Env, Files};
-use std::{env, fs};
+use std::env;
+use std::rt::Env;
 
 mod normal;
 mod report;
@@ -32,21 +32,6 @@ fn read_args(rt: &(impl Env + AllocGlobal)) -> anyhow::Result<Asked> {
         }
     }
     Ok(asked)
-}
-
-// The bytes of the file that is named, or of standard input.
-fn read_input(
-    rt: &(impl Files + Input + AllocGlobal),
-    file: Option<&str>,
-) -> anyhow::Result<Vec<u8>> {
-    match file {
-        Some(path) => Ok(fs::read(rt, path)?),
-        None => {
-            let mut input = Vec::new(rt.alloc());
-            rt.reader().read_to_end(&mut input)?;
-            Ok(input)
-        }
-    }
 }
 
 // Explains each line in turn, counted from 1.

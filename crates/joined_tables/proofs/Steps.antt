@@ -1,6 +1,6 @@
 -- Entries that are read off the bytes and brought to a table, one after another.
-use Rattle.std.proofs.Common.{◌≡◌, ℕ, ◌+◌, ◌≤◌, Bool, true, List, [], ◌∷◌, length, is_ok, Ok, Err, Result, sym, refl, ap, ◌∙◌, arith}
-use Rattle.std.proofs.lemmas.Bool.{true≢false}
+use Rattle.std.proofs.Common.{◌≡◌, ℕ, ◌+◌, ◌≤◌, Bool, true, false, leb, List, [], ◌∷◌, length, is_ok, Ok, Err, Result, sym, refl, ap, ◌∙◌, arith}
+use Rattle.std.proofs.lemmas.Bool.{true≢false, leb-false, lt-leb}
 use Rattle.encoding.specs.declared.fault.WireFault.{WireFault}
 use Rattle.encoding.specs.Entries.{entries}
 use Rattle.encoding.specs.Reading.{Reading, named}
@@ -26,6 +26,12 @@ module _ {E : Type 0} (key : E → ℕ) (above : E → E → Bool) (fine : E →
 
     pub gathered_more : (d : Sound key fine) → gathered key above fine d (wholly due) ≡ gathered key above fine (enter key above fine d e) (wholly after)
     gathered_more d = ap (gathered key above fine d) more ∙ first d e (wholly after) (ap is_ok (sym more) ∙ readable)
+
+    -- where it finds no place, the table that all of them make has none
+    pub no_room : (cap : ℕ) (d all : Sound key fine) → gathered key above fine d (wholly due) ≡ all → leb (length (enter key above fine d e).0) cap ≡ false → leb (length all.0) cap ≡ false
+    no_room cap d all is over =
+        let next = enter key above fine d e in
+        ap (λ (t : Sound key fine). leb (length t.0) cap) (sym is ∙ gathered_more d) ∙ lt-leb _ cap (omega (arith, leb-false (length next.0) cap over, gathered_grows next (wholly after)))
 
   -- none is due
   pub gathered_all : (due : Reading (List E)) (rest : List ℕ) (d : Sound key fine) → due ≡ Ok ([], rest) → gathered key above fine d (wholly due) ≡ d

@@ -1,42 +1,30 @@
 -- What a host of a kind of tables owes at its calls, from what the entries owe.
-use Rattle.std.proofs.Common.{◌≡◌, ℕ, ◌^◌, ◌<◌, ◌≤◌, true, leb, List, [], ◌∷◌, map, length, Ok, Err, is_ok, filter, sym, refl, ap, ◌∙◌, subst, arith}
-use Rattle.std.proofs.lemmas.Bool.{true≢false, and_parts, leb-true}
+use Rattle.std.proofs.Common.{◌≡◌, ℕ, ◌+◌, ◌^◌, ◌<◌, ◌≤◌, true, List, map, length, filter, sym, ap, ◌∙◌, subst, arith}
+use Rattle.std.proofs.lemmas.Bool.{and_parts}
 use Rattle.std.specs.List.{list_all}
-use Rattle.encoding.specs.declared.fault.WireFault.TheVariants.{TooManyEntries}
 use Rattle.encoding.specs.Entries.{entries}
-use Rattle.encoding.specs.Reading.{Reading}
 use Rattle.encoding.specs.Writing.{counted_out}
-use Rattle.encoding.proofs.Counted.{counted_came, entries_long}
-use Rattle.encoding.proofs.Exacts.{test_passes}
 use Rattle.state_vector.specs.declared.vector.VectorEntry.{VectorEntry}
 use Rattle.state_vector.specs.Tables.{all_below, ascends}
 use Rattle.state_vector.specs.Vector.{client_of as vector_client}
-use Rattle.joined_tables.specs.Joined.{sound}
-use Rattle.joined_tables.specs.TableKind.{Rows, Fair, rows_in, table_with, news_for}
+use Rattle.joined_tables.specs.Joined.{gathered, sound}
+use Rattle.joined_tables.specs.TableKind.{Rows, Fair, table_with, news_for}
 use Rattle.joined_tables.specs.Whole.{wholly}
 use Rattle.joined_tables.proofs.Arriving.{table_is}
 use Rattle.joined_tables.proofs.Choosing.{few_kept, pass_kept}
 use Rattle.joined_tables.proofs.Lengths.{counted_long}
 use Rattle.joined_tables.proofs.Mapping.{ascends_seen, below_seen}
+use Rattle.joined_tables.proofs.Steps.{gathered_few}
 
 module _ {E : Type 0} (rows : Rows E) where
   -- a table with few entries is within the limit
   pub table_within : (limit : ℕ) (xs : List E) → length xs ≤ limit → sound rows.client rows.fine xs ≡ true → length (table_with rows xs).0 ≤ limit
   table_within limit xs few s = omega (arith, ap length (table_is rows.client rows.above rows.fine xs s))
 
-  -- an update that was read to its end has at most 64 entries
-  pub few_in_update : (n : ℕ) (s bytes : List ℕ) → wholly (entries rows.reading n s) ≡ wholly (rows_in rows bytes) → is_ok (wholly (entries rows.reading n s)) ≡ true → n ≤ 64
-  few_in_update n s bytes e h = by_read (entries rows.reading n s) refl (rows_in rows bytes) refl (sym (ap is_ok e) ∙ h) e
-    where
-      by_read : (v : Reading (List E)) → entries rows.reading n s ≡ v → (w : Reading (List E)) → rows_in rows bytes ≡ w → is_ok (wholly w) ≡ true → wholly v ≡ wholly w → n ≤ 64
-      by_read v p (Err f) q k g = absurd (true≢false (sym k))
-      by_read v p (Ok (fs, b ∷ bs)) q k g = absurd (true≢false (sym k))
-      by_read (Err f) p (Ok (fs, [])) q k g = absurd (true≢false (sym (ap is_ok g)))
-      by_read (Ok (es, b ∷ bs)) p (Ok (fs, [])) q k g = absurd (true≢false (sym (ap is_ok g)))
-      by_read (Ok (es, [])) p (Ok (fs, [])) q k g =
-          let same : es ≡ fs = cc in
-          let c = counted_came rows.reading rows.writing 32 bytes [] fs q in
-          omega (arith, leb-true (length fs) 64 (test_passes TooManyEntries (leb (length fs) 64) c.1), ap length same, entries_long rows.reading rows.writing n s [] es p)
+  -- where a table and an update have no more entries together than the limit, the join fits
+  pub surely_fits : (limit : ℕ) (xs : List E) (n : ℕ) (s : List ℕ) → sound rows.client rows.fine xs ≡ true → length xs + n ≤ limit → length (gathered rows.client rows.above rows.fine (table_with rows xs) (wholly (entries rows.reading n s))).0 ≤ limit
+  surely_fits limit xs n s good few =
+      omega (arith, gathered_few rows.client rows.above rows.fine rows.reading n s (table_with rows xs), table_within (length xs) xs (omega arith) good)
 
   -- what is news of the entries that a table is made of, is news of the table
   pub news_is : (v : List VectorEntry) (xs ys : List E) → ys ≡ xs → sound rows.client rows.fine xs ≡ true → filter (rows.news v) ys ≡ news_for rows (table_with rows xs) v

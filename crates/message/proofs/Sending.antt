@@ -1,5 +1,5 @@
 -- Messages that are sent into a sink.
-use Rattle.std.proofs.Common.{◌≡◌, ℕ, ◌^◌, ◌<◌, List, length, Ok, Err, Result, ap, ◌∙◌, arith, lt-ltb}
+use Rattle.std.proofs.Common.{◌≡◌, ℕ, List, Ok, Err, Result, ap, ◌∙◌, arith}
 use Rattle.encoding.specs.declared.fault.WireFault.{WireFault}
 use Rattle.encoding.specs.declared.sink.BufferTooShort.{BufferTooShort}
 use Rattle.encoding.specs.declared.sink.Counter.{Counter}
@@ -7,7 +7,7 @@ use Rattle.encoding.specs.declared.sink.Filler.{Filler}
 use Rattle.encoding.specs.declared.write.WriteFault.{WriteFault}
 use Rattle.encoding.specs.Sink.{Put}
 use Rattle.encoding.specs.TwoSinks.{room_of_counter, Counts, room_of_filler, Fills, stood}
-use Rattle.encoding.specs.Writing.{packed, Row, asked, buffer_out, Writes, told, Sent}
+use Rattle.encoding.specs.Writing.{Row, asked, Writes, told, Sent}
 use Rattle.encoding.proofs.Fillings.{runs_count, lent_stood}
 use Rattle.encoding.proofs.Sendings.{sent_then}
 use Rattle.message.specs.Writing.{led, Written}
@@ -19,14 +19,6 @@ module _ {S : Type 0} (room : S → ℕ) (step : S → ℕ → S → Type 0) whe
   led_sent s m t lead (Ok bs) u (Err e) p q = sent_then room step s m t lead bs u (Err e) p q.1
   led_sent s m t lead (Err f) u (Ok v) p q = cc
   led_sent s m t lead (Err f) u (Err e) p q = tt
-
-  -- a buffer that is short enough is its bytes
-  pub buffer_goes : (s t : S) (bs : List ℕ) (r : Result (Unit {0}) BufferTooShort) → length bs < 2 ^ 32 → Writes room step s (buffer_out bs) (told r) t → Sent room step s (Ok (packed bs)) r t
-  buffer_goes s t bs r l w = by r (rw (lt-ltb (length bs) (2 ^ 32) l) at w)
-    where
-      by : (r : Result (Unit {0}) BufferTooShort) → Writes room step s (Ok (packed bs)) (told r) t → Sent room step s (Ok (packed bs)) r t
-      by (Ok u) w = w
-      by (Err e) w = w.1
 
 -- ---- a message that was counted and then written
 -- a row that the counter took and the filler then took stands in the buffer, and the count is its length

@@ -6,6 +6,7 @@ use crate::keyed::{Keyed, Outcome, Table, TableFull};
 use crate::standing::Standing;
 use crate::vector::{StateVector, VectorEntry, check_vector};
 use encoding::fault::WireFault;
+use encoding::sink::{BufferTooShort, Filler};
 use std::test::Fail;
 
 // An entry as presence has them: a higher clock stands above, and at the same clock one that is gone above one that is live.
@@ -125,5 +126,26 @@ fn reads(rt: HostRuntime) -> Result<(), Fail> {
     );
     assert_eq!(rt; check_vector(&[65]), Err(WireFault::TooManyEntries));
     assert_eq!(rt; check_vector(&[3, 7, 9, 3, 0, 7, 2, 255]), Ok(()));
+    Ok(())
+}
+
+// Into a buffer that is one byte too short nothing is written.
+#[test]
+fn writes_whole_or_not_at_all(rt: HostRuntime) -> Result<(), Fail> {
+    let mut v = StateVector::new();
+    v.put(known_to(5, 300))?;
+    let mut out = [0xee; 4];
+    let mut short = Filler {
+        out: &mut out[..3],
+        at: 0,
+    };
+    assert_eq!(rt; v.write(&mut short), Err(BufferTooShort));
+    assert_eq!(rt; out, [0xee; 4]);
+    let mut filler = Filler {
+        out: &mut out,
+        at: 0,
+    };
+    v.write(&mut filler)?;
+    assert_eq!(rt; out, *b"\x01\x05\xac\x02");
     Ok(())
 }

@@ -1,10 +1,8 @@
-use Rattle.std.proofs.Common.{◌^◌, ◌<◌, leb, length, is_ok, Some, sym, ap, ◌∙◌, subst, arith}
-use Rattle.std.proofs.lemmas.Bool.{leb-false, le-leb, lt-leb}
+use Rattle.std.proofs.Common.{◌^◌, ◌<◌, leb, length, is_ok, Some, sym, ap, ◌∙◌, subst}
+use Rattle.std.proofs.lemmas.Bool.{le-leb}
 use Rattle.std.proofs.lemmas.Result.{err_from_is_err_and}
 use Rattle.encoding.specs.Entries.{entries, Steps}
-use Rattle.joined_tables.specs.Joined.{enter}
-use Rattle.joined_tables.specs.Whole.{wholly}
-use Rattle.joined_tables.proofs.Steps.{gathered_more, gathered_all, gathered_grows}
+use Rattle.joined_tables.proofs.Steps.{no_room, gathered_all}
 use Rattle.joined_tables.proofs.TableHosts.{table_within}
 use Rattle.boards.specs.declared.count.Count.{Count}
 use Rattle.boards.specs.CountBoard.{client_of, outranks, keepable, count_in, count_rows, Board, board}
@@ -12,17 +10,13 @@ use Rattle.boards.proofs.count_board.CountBoard.join.Goals as goal
 
 pub returns-in_err-offer-clause-fits : goal.returns-in_err-offer-clause-fits
 returns-in_err-offer-clause-fits c =
-    let start = board c.loop-e.self.counts in
     let it = c.loop-e.e-iterator in
     let then = c.next.new.self in
     let due = entries count_in it.left it.rest.now in
     let after = entries count_in then.left then.rest.now in
     let step = subst (λ r. Steps {E = Count} (λ e. e) (λ e. (e.client < 2 ^ 53) × (e.count < 2 ^ 32)) due (Some r) after then.rest.now) c.unwrap.ensures c.in-Some.ensures.steps in
-    let more = gathered_more client_of outranks keepable c.unwrap.result due after c.loop-e.invariant.readable step.0 start in
-    let next = enter client_of outranks keepable start c.unwrap.result in
-    let over = leb-false (length next.0) 64 (sym c.in_err-offer.ensures.fits) in
     ap is_ok (err_from_is_err_and c.from_residual.result c.from_residual.ensures.1).1
-    ∙ sym (ap (λ (d : Board). leb (length d.0) 64) (sym c.loop-e.invariant.same ∙ more) ∙ lt-leb _ 64 (omega (arith, over, gathered_grows client_of outranks keepable next (wholly after))))
+    ∙ sym (no_room client_of outranks keepable c.unwrap.result due after c.loop-e.invariant.readable step.0 64 (board c.loop-e.self.counts) _ c.loop-e.invariant.same (sym c.in_err-offer.ensures.fits))
 
 pub returns-clause-fits : goal.returns-clause-fits
 returns-clause-fits c =

@@ -11,5 +11,5 @@ invariant-loop-e l =
     let due = wholly (entries count_in l.e-iterator.left l.e-iterator.rest.now) in
     record {
       readable : is_ok due ≡ true;
-      same : gathered client_of outranks keepable (board l.self.counts) due ≡ gathered client_of outranks keepable (board l.initial.self.counts) (wholly (entries count_in l.update.count l.update.counts.now));
+      same : gathered client_of outranks keepable (board l.self.counts) due ≡ gathered client_of outranks keepable (board l.initial.self.counts) (wholly (entries count_in l.update.left l.update.rest.now));
     }

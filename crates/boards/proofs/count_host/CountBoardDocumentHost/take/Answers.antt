@@ -1,54 +1,38 @@
-use Rattle.std.proofs.Common.{◌≡◌, ℕ, ◌+◌, ◌≤◌, true, List, length, Err, ap, ◌∙◌, sym, arith}
-use Rattle.std.proofs.lemmas.Bool.{both_ways, le-leb, leb-false, leb-true}
+use Rattle.std.proofs.Common.{Err, is_ok, length, ap, ◌∙◌, sym, arith}
+use Rattle.std.proofs.lemmas.Bool.{le-leb, leb-false, leb-true}
 use Rattle.std.proofs.lemmas.Result.{err_from_is_err_and}
 use Rattle.encoding.specs.Entries.{entries}
-use Rattle.joined_tables.specs.Joined.{gathered, sound}
 use Rattle.joined_tables.specs.Whole.{wholly}
-use Rattle.joined_tables.proofs.Steps.{gathered_few}
-use Rattle.joined_tables.proofs.TableHosts.{few_in_update, table_within}
+use Rattle.joined_tables.proofs.TableHosts.{surely_fits}
 use Rattle.joined_tables.proofs.TableLaws.{takes_it, too_large}
-use Rattle.boards.specs.declared.count.Count.{Count}
-use Rattle.boards.specs.CountBoard.{client_of, outranks, keepable, count_in, count_rows, board}
+use Rattle.boards.specs.CountBoard.{count_in, count_rows, board}
 use Rattle.boards.specs.Counts.{count_fair}
 use Rattle.boards.proofs.count_host.CountBoardDocumentHost.take.Goals as goal
 
 pub overflow_add-counts : goal.overflow_add-counts
-overflow_add-counts c =
-    let u = c.in_ok-update.update in
-    let few = few_in_update count_rows u.count u.counts.now c.args.bytes.now c.in_ok-update.ensures.reads c.in_ok-update.ensures.whole in
-    omega (arith, few, c.counts.ensures.few)
+overflow_add-counts c = omega (arith, c.in_ok-update.ensures.few, c.counts.ensures.few)
 
--- where the board and the update have no more than 64 counts together, the join fits
-fits : (xs : List Count) (n : ℕ) (s : List ℕ) → sound client_of keepable xs ≡ true → length xs + n ≤ 64 → length (gathered client_of outranks keepable (board xs) (wholly (entries count_in n s))).0 ≤ 64
-fits xs n s good few = omega (arith, gathered_few client_of outranks keepable count_in n s (board xs), table_within count_rows (length xs) xs (omega arith) good)
-
-pub returns-in_err-join-clause-answer : goal.returns-in_err-join-clause-answer
-returns-in_err-join-clause-answer c =
+pub unwrap-requires : goal.unwrap-requires
+unwrap-requires c =
     let b = c.args.self.now in
     let u = c.in_ok-update.update in
-    absurd (both_ways _ (sym c.in_err-join.ensures.fits) (le-leb _ 64 (fits b.counts u.count u.counts.now b.sound (omega (arith, ap length c.counts.ensures.all, c.if-counts-update.true)))))
-
-pub returns-in_err-join-clause-document : goal.returns-in_err-join-clause-document
-returns-in_err-join-clause-document c =
-    let b = c.args.self.now in
-    let u = c.in_ok-update.update in
-    absurd (both_ways _ (sym c.in_err-join.ensures.fits) (le-leb _ 64 (fits b.counts u.count u.counts.now b.sound (omega (arith, ap length c.counts.ensures.all, c.if-counts-update.true)))))
+    c.join.ensures.fits ∙ le-leb _ 64 (surely_fits count_rows 64 b.counts u.left u.rest.now b.sound (omega (arith, ap length c.counts.ensures.all, c.if-counts-update.true)))
 
 pub returns-then-counts-update : goal.returns-then-counts-update
 returns-then-counts-update c =
     let u = c.in_ok-update.update in
-    let t = takes_it count_rows count_fair 64 (board c.args.self.now.counts) c.args.bytes.now (wholly (entries count_in u.count u.counts.now)) c.in_ok-update.ensures.reads c.in_ok-update.ensures.whole (leb-true _ 64 (sym c.in_ok-join.ensures.fits)) in
-    record { answer = t.0; document = c.in_ok-join.ensures.joins ∙ t.1 }
+    let t = takes_it count_rows count_fair 64 (board c.args.self.now.counts) c.args.bytes.now (wholly (entries count_in u.left u.rest.now)) c.in_ok-update.ensures.reads c.in_ok-update.ensures.whole (leb-true _ 64 (sym c.join.ensures.fits ∙ ap is_ok c.unwrap.ensures)) in
+    record { answer = t.0; document = (rw c.unwrap.ensures at c.join.ensures.joins) ∙ t.1 }
 
-pub returns-in_err-join-2 : goal.returns-in_err-join-2
-returns-in_err-join-2 c =
+pub returns-in_err-join : goal.returns-in_err-join
+returns-in_err-join c =
     let u = c.in_ok-update.update in
-    let p = err_from_is_err_and c.from_residual-in_err-join-2.result c.from_residual-in_err-join-2.ensures.1 in
-    let t = too_large count_rows count_fair 64 (board c.copy-joined.result.counts) c.args.bytes.now (wholly (entries count_in u.count u.counts.now)) c.in_ok-update.ensures.reads c.in_ok-update.ensures.whole (leb-false _ 64 (sym c.in_err-join-2.ensures.fits)) in
+    let p = err_from_is_err_and c.from_residual-in_err-join.result c.from_residual-in_err-join.ensures.1 in
+    let t = too_large count_rows count_fair 64 (board c.copy-joined.result.counts) c.args.bytes.now (wholly (entries count_in u.left u.rest.now)) c.in_ok-update.ensures.reads c.in_ok-update.ensures.whole (leb-false _ 64 (sym c.in_err-join.ensures.fits)) in
     rw (← c.copy-joined.ensures) (record { answer = p.1 ∙ ap Err p.2 ∙ t.0; document = t.1 })
 
 pub returns : goal.returns
 returns c =
     let u = c.in_ok-update.update in
-    let t = takes_it count_rows count_fair 64 (board c.copy-joined.result.counts) c.args.bytes.now (wholly (entries count_in u.count u.counts.now)) c.in_ok-update.ensures.reads c.in_ok-update.ensures.whole (leb-true _ 64 (sym c.in_ok-join-2.ensures.fits)) in
-    rw (← c.copy-joined.ensures) (record { answer = t.0; document = c.in_ok-join-2.ensures.joins ∙ t.1 })
+    let t = takes_it count_rows count_fair 64 (board c.copy-joined.result.counts) c.args.bytes.now (wholly (entries count_in u.left u.rest.now)) c.in_ok-update.ensures.reads c.in_ok-update.ensures.whole (leb-true _ 64 (sym c.in_ok-join.ensures.fits)) in
+    rw (← c.copy-joined.ensures) (record { answer = t.0; document = c.in_ok-join.ensures.joins ∙ t.1 })

@@ -17,7 +17,7 @@ use Rattle.state_vector.specs.Vector.{clock_of}
 use Rattle.joined_tables.specs.Joined.{Decided, HeldOff}
 use Rattle.document.specs.Kind.{Lawful}
 use Rattle.boards.specs.SlotBoard.{Plain, client_of, outranks, keepable, slot_clock, slot_bytes, slot_clock_in, slot_bytes_in, slot_in, slots_in, slot_out, slot_rows, slots, SlotIs, SlotsAre}
-use Rattle.boards.proofs.ByteOrder.{later_order, later_decided}
+use Rattle.boards.specs.ByteOrder.{later_order, later_decided}
 
 -- the clock before the bytes is one more place of their order
 abbrev ranked : Plain → List ℕ

@@ -1,0 +1,15 @@
+use Rattle.std.proofs.Common.{◌≡◌, true, is_ok}
+use Rattle.encoding.specs.Entries.{entries}
+use Rattle.joined_tables.specs.Joined.{gathered}
+use Rattle.joined_tables.specs.Whole.{wholly}
+use Rattle.boards.specs.SlotBoard.{client_of, outranks, keepable, slot_in, board}
+use Rattle.boards.proofs.slot_board.SlotBoard.join.Given as goal
+
+-- the slots that are due can be read, and bring the board to where all of them bring it
+abbrev pub invariant-loop-e : goal.invariant-loop-e
+invariant-loop-e l =
+    let due = wholly (entries slot_in l.e-iterator.left l.e-iterator.rest.now) in
+    record {
+      readable : is_ok due ≡ true;
+      same : gathered client_of outranks keepable (board l.self.slots) due ≡ gathered client_of outranks keepable (board l.initial.self.slots) (wholly (entries slot_in l.update.left l.update.rest.now));
+    }

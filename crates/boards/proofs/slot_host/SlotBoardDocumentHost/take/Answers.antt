@@ -1,0 +1,38 @@
+use Rattle.std.proofs.Common.{Err, is_ok, length, ap, ◌∙◌, sym, arith}
+use Rattle.std.proofs.lemmas.Bool.{le-leb, leb-false, leb-true}
+use Rattle.std.proofs.lemmas.Result.{err_from_is_err_and}
+use Rattle.encoding.specs.Entries.{entries}
+use Rattle.joined_tables.specs.Whole.{wholly}
+use Rattle.joined_tables.proofs.TableHosts.{surely_fits}
+use Rattle.joined_tables.proofs.TableLaws.{takes_it, too_large}
+use Rattle.boards.specs.SlotBoard.{slot_in, slot_rows, board}
+use Rattle.boards.specs.Slots.{slot_fair}
+use Rattle.boards.proofs.slot_host.SlotBoardDocumentHost.take.Goals as goal
+
+pub overflow_add-slots : goal.overflow_add-slots
+overflow_add-slots c = omega (arith, c.in_ok-update.ensures.few, c.slots.ensures.few)
+
+pub unwrap-requires : goal.unwrap-requires
+unwrap-requires c =
+    let b = c.args.self.now in
+    let u = c.in_ok-update.update in
+    c.join.ensures.fits ∙ le-leb _ 16 (surely_fits slot_rows 16 b.slots u.left u.rest.now b.sound (omega (arith, ap length c.slots.ensures.all, c.if-slots-update.true)))
+
+pub returns-then-slots-update : goal.returns-then-slots-update
+returns-then-slots-update c =
+    let u = c.in_ok-update.update in
+    let t = takes_it slot_rows slot_fair 16 (board c.args.self.now.slots) c.args.bytes.now (wholly (entries slot_in u.left u.rest.now)) c.in_ok-update.ensures.reads c.in_ok-update.ensures.whole (leb-true _ 16 (sym c.join.ensures.fits ∙ ap is_ok c.unwrap.ensures)) in
+    record { answer = t.0; document = (rw c.unwrap.ensures at c.join.ensures.joins) ∙ t.1 }
+
+pub returns-in_err-join : goal.returns-in_err-join
+returns-in_err-join c =
+    let u = c.in_ok-update.update in
+    let p = err_from_is_err_and c.from_residual-in_err-join.result c.from_residual-in_err-join.ensures.1 in
+    let t = too_large slot_rows slot_fair 16 (board c.copy-joined.result.slots) c.args.bytes.now (wholly (entries slot_in u.left u.rest.now)) c.in_ok-update.ensures.reads c.in_ok-update.ensures.whole (leb-false _ 16 (sym c.in_err-join.ensures.fits)) in
+    rw (← c.copy-joined.ensures) (record { answer = p.1 ∙ ap Err p.2 ∙ t.0; document = t.1 })
+
+pub returns : goal.returns
+returns c =
+    let u = c.in_ok-update.update in
+    let t = takes_it slot_rows slot_fair 16 (board c.copy-joined.result.slots) c.args.bytes.now (wholly (entries slot_in u.left u.rest.now)) c.in_ok-update.ensures.reads c.in_ok-update.ensures.whole (leb-true _ 16 (sym c.in_ok-join.ensures.fits)) in
+    rw (← c.copy-joined.ensures) (record { answer = t.0; document = c.in_ok-join.ensures.joins ∙ t.1 })
