@@ -12,3 +12,4 @@ pub mod Lists
 pub mod Own
 pub mod Times
 pub mod Newest
+pub mod Asked
