@@ -9,7 +9,7 @@ use Rattle.awareness.specs.Calls.{judged, rise_for}
 use Rattle.awareness.specs.Record.{Record, client_of, held_of}
 use Rattle.awareness.specs.Taking.{stored}
 use Rattle.awareness.proofs.Entered.{length_then}
-use Rattle.awareness.proofs.Seating.{room_passes, room_fails}
+use Rattle.awareness.proofs.Newcomers.{room_passes, room_fails}
 
 module _ (c : ℕ) (rows : List Record) (r : Record) (mine : r.client ≡ c) (up : ascends client_of rows ≡ true) where
   always_is : (o : Option Record) → raised always o r ≡ r

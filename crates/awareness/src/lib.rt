@@ -13,3 +13,6 @@ pub mod observer;
 pub mod record;
 mod standing;
 pub mod summary;
+#[cfg(test)]
+mod tests;
+pub mod winning;

@@ -30,6 +30,7 @@ impl Choice<Record> for Given<'_> {
 }
 
 // The records that are live.
+#[derive(Clone, Copy, Debug)]
 pub struct LiveOnes;
 
 impl Choice<Record> for LiveOnes {
