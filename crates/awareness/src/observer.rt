@@ -15,7 +15,7 @@ pub trait Observer {
 }
 
 // Nobody is told.
-#[derive(Drop)]
+#[derive(Clone, Copy, Debug, Drop)]
 pub struct Nobody;
 
 impl Observer for Nobody {
