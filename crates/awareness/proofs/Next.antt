@@ -1,16 +1,15 @@
 -- A record that always takes its place, and whether it can be held.
-use Rattle.std.proofs.Common.{◌≡◌, ℕ, ◌+◌, ◌^◌, ◌≤◌, ◌<◌, Bool, true, false, cond, leb, ltb, List, length, is_ok, is_some, Some, None, Ok, Err, Option, Result, sym, refl, ap, ◌∙◌, subst, arith}
+use Rattle.std.proofs.Common.{◌≡◌, ℕ, ◌+◌, ◌^◌, ◌≤◌, ◌<◌, Bool, true, false, cond, leb, List, length, is_some, Some, None, Ok, Err, Option, Result, sym, refl, ap, ◌∙◌, subst, arith}
 use Rattle.std.specs.Result.{result_and}
-use Rattle.std.proofs.lemmas.Bool.{cond-true, cond-false, lt-ltb, le-ltb, ltb-false}
-use Rattle.state_vector.specs.Tables.{always, ascends, entered, raised}
+use Rattle.state_vector.specs.Tables.{always, ascends, raised}
 use Rattle.state_vector.proofs.Entering.{held_own}
 use Rattle.awareness.specs.declared.fault.PresenceFault.{PresenceFault}
 use Rattle.awareness.specs.declared.fault.PresenceFault.TheVariants.{TooManyClients, ClockAtEnd}
-use Rattle.awareness.specs.Calls.{judged, past_end, room_for, rise_for}
+use Rattle.awareness.specs.Calls.{judged, rise_for}
 use Rattle.awareness.specs.Record.{Record, client_of, held_of}
 use Rattle.awareness.specs.Taking.{stored}
 use Rattle.awareness.proofs.Entered.{length_then}
-use Rattle.awareness.proofs.Seating.{room_passes, room_fails}
+use Rattle.awareness.proofs.Newcomers.{room_passes, room_fails}
 
 module _ (c : ℕ) (rows : List Record) (r : Record) (mine : r.client ≡ c) (up : ascends client_of rows ≡ true) where
   always_is : (o : Option Record) → raised always o r ≡ r

@@ -16,8 +16,8 @@
 --   all_known    each of the clients is held
 --   Written      what is written, in the caller's buffer
 --   listing      the update of some clients, or why there is none
-use Rattle.std.specs.Prelude.{◌≡◌, ℕ, ◌^◌, ◌<◌, Bool, true, false, cond, List, [], ◌∷◌, map, filter, length, Some, None, Ok, Err, Option, Result, is_some, ◌==◌, nat_le, nat_lt, ◌||◌}
-use Rattle.std.specs.List.{list_all}
+use Rattle.std.specs.Prelude.{◌≡◌, ℕ, ◌^◌, ◌<◌, Bool, true, false, cond, List, [], ◌∷◌, map, filter, length, Some, None, Ok, Err, Option, Result, is_some, ◌==◌, nat_le, nat_lt}
+use Rattle.std.specs.List.{list_all, list_any}
 use Rattle.std.specs.Result.{result_and}
 use Rattle.encoding.specs.declared.fault.WireFault.{WireFault}
 use Rattle.encoding.specs.Fields.{client_id, count, presence_text}
@@ -113,8 +113,7 @@ all_known rows cs = list_all (λ c. is_some (held_of c rows)) cs
 
 -- one of the numbers is this one
 abbrev pub has : List ℕ → ℕ → Bool
-has [] n = false
-has (c ∷ cs) n = (c == n) || has cs n
+has cs n = list_any (λ c. c == n) cs
 
 -- the bytes of the update of some records, ascending, each once
 abbrev pub update_of : (Record → Bool) → List Record → List ℕ

@@ -60,7 +60,7 @@ fn same(held: &Record, text: &[u8]) -> bool
 }
 
 // What an entry does to what is held of its client.
-fn change_by(own: u64, held: Option<&Record>, e: &ArrivedEntry<'_>) -> Change
+pub(crate) fn change_by(own: u64, held: Option<&Record>, e: &ArrivedEntry<'_>) -> Change
     ensures { result ≡ change_by own (option_copied held.entry) e.now }
 {
     let Some(held) = held else {

@@ -7,9 +7,12 @@ pub mod change;
 pub mod clock;
 pub mod fault;
 pub mod laws;
-pub mod observer;
-pub mod record;
 pub mod listing;
 pub mod local;
+pub mod observer;
+pub mod record;
 mod standing;
 pub mod summary;
+#[cfg(test)]
+mod tests;
+pub mod winning;

@@ -5,7 +5,6 @@ ghost use Rattle.encoding.specs.TwoSinks.{Filled};
 ghost use Rattle.awareness.specs.declared.fault.PresenceFault.TheVariants.{ClientNotFound};
 ghost use Rattle.awareness.specs.Calls.{all_ids, all_known, has, listing, live_update, update_of, Written};
 ghost use Rattle.awareness.specs.Record.{live};
-ghost use Rattle.awareness.specs.Taking.{met};
 
 use crate::awareness::Awareness;
 use crate::fault::{AwarenessFault, PresenceFault};
@@ -31,6 +30,7 @@ impl Choice<Record> for Given<'_> {
 }
 
 // The records that are live.
+#[derive(Clone, Copy, Debug)]
 pub struct LiveOnes;
 
 impl Choice<Record> for LiveOnes {

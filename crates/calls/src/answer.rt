@@ -1,5 +1,10 @@
 // What a call tells.
+ghost use Rattle.std.specs.Prelude.{◌≡◌, ◌==◌, if◌then◌else◌, Ok, Err};
+ghost use Rattle.encoding.specs.Fault.{wire_number};
+ghost use Rattle.calls.specs.declared.fault.Fault.TheVariants.{Wire};
+
 use crate::fault::Fault;
+use encoding::fault::WireFault;
 
 // A handle that met no refusal.
 #[derive(Clone, Copy, Debug, PartialEq, Eq)]
@@ -19,4 +24,28 @@ pub struct Refusal {
     pub message: usize,
     pub place: usize,
     pub replies: usize,
+}
+
+impl Handled {
+    // A refusal that leaves so much done.
+    pub fn refused(self, fault: Fault) -> Refusal
+        ensures { result ≡ record { fault = fault; message = self.messages; place = self.place; replies = self.replies } }
+    {
+        Refusal {
+            fault,
+            message: self.messages,
+            place: self.place,
+            replies: self.replies,
+        }
+    }
+
+    // Where reading ended: a message that is cut short is none yet, and any other fault is that of a message.
+    pub fn stopped(self, fault: WireFault) -> Result<Handled, Refusal>
+        ensures { result ≡ (if wire_number fault == 2 then Ok self else Err (record { fault = Wire fault; message = self.messages; place = self.place; replies = self.replies })) }
+    {
+        match fault {
+            WireFault::EndOfBuffer => Ok(self),
+            _ => Err(self.refused(fault.into())),
+        }
+    }
 }

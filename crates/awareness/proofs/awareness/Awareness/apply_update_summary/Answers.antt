@@ -5,7 +5,7 @@ use Rattle.message.specs.Presence.{presence}
 use Rattle.awareness.specs.Calls.{apply, judged}
 use Rattle.awareness.specs.Summaries.{enough, lengths_of, over}
 use Rattle.awareness.specs.Taking.{taken}
-use Rattle.awareness.proofs.Summaries.{Told, told_so}
+use Rattle.awareness.proofs.Summaries.{told_so}
 use Rattle.awareness.proofs.awareness.Awareness.apply_update_summary.Goals as goal
 
 pub returns-clause-answer : goal.returns-clause-answer
@@ -20,10 +20,10 @@ returns-clause-answer g c =
     let t = told_so (enough c.args.lists.now) own now rows (presence c.args.update.now) es c.in_ok-apply_update.field-0 c.new-seen.result c.apply_update.new.seen fits read fine c.in_ok-update.ensures.few c.new-seen.ensures c.apply_update.ensures.seen in
     let xs = (apply (enough c.args.lists.now) own now rows (presence c.args.update.now)).changes in
     let lens : c.fill.result ≡ lengths_of xs = c.fill.ensures.lengths
-        ∙ ap (λ l. record { added = length l; updated = length c.apply_update.new.seen.updated; changed = length c.apply_update.new.seen.changed; removed = length c.apply_update.new.seen.removed }) t.added
-        ∙ ap (λ l. record { added = (lengths_of xs).added; updated = length l; changed = length c.apply_update.new.seen.changed; removed = length c.apply_update.new.seen.removed }) t.updated
-        ∙ ap (λ l. record { added = (lengths_of xs).added; updated = (lengths_of xs).updated; changed = length l; removed = length c.apply_update.new.seen.removed }) t.changed
-        ∙ ap (λ l. record { added = (lengths_of xs).added; updated = (lengths_of xs).updated; changed = (lengths_of xs).changed; removed = length l }) t.removed in
+    ∙ ap (λ l. record { added = length l; updated = length c.apply_update.new.seen.updated; changed = length c.apply_update.new.seen.changed; removed = length c.apply_update.new.seen.removed }) t.added
+    ∙ ap (λ l. record { added = (lengths_of xs).added; updated = length l; changed = length c.apply_update.new.seen.changed; removed = length c.apply_update.new.seen.removed }) t.updated
+    ∙ ap (λ l. record { added = (lengths_of xs).added; updated = (lengths_of xs).updated; changed = length l; removed = length c.apply_update.new.seen.removed }) t.changed
+    ∙ ap (λ l. record { added = (lengths_of xs).added; updated = (lengths_of xs).updated; changed = (lengths_of xs).changed; removed = length l }) t.removed in
     ap Ok lens ∙ sym (ap (λ r. result_and r (Ok (lengths_of xs))) t.answer)
 
 pub returns-clause-lists : goal.returns-clause-lists

@@ -1,4 +1,4 @@
-use Rattle.std.proofs.Common.{◌≡◌, ◌≤◌, ◌∙◌, refl, sym, subst, length}
+use Rattle.std.proofs.Common.{◌≤◌, ◌∙◌, refl, sym, subst, length}
 use Rattle.awareness.proofs.Coming.{came_in, came_none}
 use Rattle.awareness.proofs.awareness.Awareness.receive.Goals as goal
 

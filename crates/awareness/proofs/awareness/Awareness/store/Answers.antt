@@ -12,10 +12,11 @@ unwrap-requires c = ap is_ok c.put.ensures.answer ∙ (put_passes c.self.inside.
 
 pub invariant_of-self : goal.invariant_of-self
 invariant_of-self c =
-    let is : c.put.new.self ≡ stored c.self.inside.table c.args.come = c.put.ensures.used ∙ (put_passes c.self.inside.table c.args.come (subst (λ a. length (stored a.rows c.args.come) ≤ 64) (sym c.self.view_is) c.requires)).1 in
-    (c.self.invariant.0,
-        subst (λ rows. ascends client_of rows ≡ true) (sym is) (ascends_entered client_of always c.self.inside.table c.args.come c.self.invariant.1),
-        rw is (All-entered client_of Writable c.self.inside.table c.args.come (subst Writable c.come.view_is c.come.invariant) c.self.invariant.2))
+    let is : c.put.new.self ≡ stored c.self.inside.table c.args.come = c.put.ensures.used ∙ (put_passes c.self.inside.table c.args.come (subst (λ a. length (stored a.rows c.args.come) ≤ 64) (sym c.self.view_is) c.requires)).1 in (
+      c.self.invariant.0,
+      subst (λ rows. ascends client_of rows ≡ true) (sym is) (ascends_entered client_of always c.self.inside.table c.args.come c.self.invariant.1),
+      rw is (All-entered client_of Writable c.self.inside.table c.args.come (subst Writable c.come.view_is c.come.invariant) c.self.invariant.2),
+    )
 
 pub returns-clause-rows : goal.returns-clause-rows
 returns-clause-rows c = c.put.ensures.used ∙ (put_passes c.self.inside.table c.args.come (subst (λ a. length (stored a.rows c.args.come) ≤ 64) (sym c.self.view_is) c.requires)).1 ∙ ap (λ a. stored a.rows c.args.come) c.self.view_is

@@ -1,0 +1,5 @@
+pub mod LiveOnes
+pub mod Replies
+pub mod Walks
+pub mod Onemore
+pub mod Walked

@@ -1,0 +1,5 @@
+// A hub: messages handled, one after another.
+#![tactic(auto)]
+
+pub mod hub;
+pub mod live;
