@@ -41,7 +41,7 @@ use Rattle.law.proofs.Readings.{presences_append, one_each, same_events, one_or_
 use Rattle.law.proofs.Rooms.{by, judged_is}
 use Rattle.law.proofs.Writings.{fits_in, entries_are}
 
-said_append : (xs ys : List Done) → said_of (xs ++ ys) ≡ said_of xs ++ said_of ys
+pub said_append : (xs ys : List Done) → said_of (xs ++ ys) ≡ said_of xs ++ said_of ys
 said_append [] ys = refl
 said_append (x ∷ xs) ys = ap (λ l. x.message ∷ l) (said_append xs ys)
 

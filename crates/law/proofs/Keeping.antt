@@ -11,9 +11,11 @@ use Rattle.law.specs.Model.{Step, Made, fresh, Runs, none, more}
 use Rattle.law.specs.Events.{Event, events, Account, AtLeast, account, document_of}
 use Rattle.law.specs.Shown.{standing, Touches, reading_of, Last, TimeOf, Holds}
 use Rattle.law.specs.Answers.{Answered, Takes}
-use Rattle.law.specs.Law.{AtEach, Law, EveryRunKeepsTheLaw, OneCallMoreKeepsTheLaw, TheLawLeavesNothingOpen}
+use Rattle.law.specs.Exchange.{AtEach}
+use Rattle.law.specs.Law.{Law, EveryRunKeepsTheLaw, OneCallMoreKeepsTheLaw, TheLawLeavesNothingOpen}
 use Rattle.law.proofs.Accounts.{clock_led, null_passed, text_stays}
 use Rattle.law.proofs.Calls.{CallSo, call_so}
+use Rattle.law.proofs.Exchanges.{exchanges}
 use Rattle.law.proofs.Histories.{cut_last, events_more}
 use Rattle.law.proofs.Messages.{Kept}
 use Rattle.law.proofs.Onward.{sound_first}
@@ -30,7 +32,7 @@ nowhere : (own : ℕ) (So : List Event → Told → Type 0) → AtEach own So []
 nowhere own So [] t after is = cc
 nowhere own So (x ∷ before) t after is = cc
 
-module _ (k : Kind) (limit : ℕ) (accepts : Said → Bool) (id : ℕ) where
+module _ (k : Kind) (limit : ℕ) (lawful : Lawful k limit) (accepts : Said → Bool) (id : ℕ) where
   -- a hub that is what happened makes of it, where all was answered so, keeps the law
   law_from : (history : History) (hub : Hub k) → Kept k limit accepts id (events id history) hub → AtEach id (Answered k limit accepts id) history → AtEach id (Takes id) history → Law k limit accepts id history hub
   law_from history hub kept answered takes =
@@ -52,6 +54,7 @@ module _ (k : Kind) (limit : ℕ) (accepts : Said → Bool) (id : ℕ) where
           last_change = λ c r is. subst (TimeOf id ds c) is (kept.sound.holds c).time;
         };
         document = record { joined = kept.document; never_past = kept.never };
+        exchange = exchanges k limit lawful accepts id history hub.document kept.document answered kept.never;
       }
 
   -- and the other way round
@@ -90,23 +93,23 @@ module _ (k : Kind) (limit : ℕ) (accepts : Said → Bool) (id : ℕ) where
       (at_each_more id (Takes id) history t law.times.readings so.takes)
 
   -- no call yet
-  pub law_first : Lawful k limit → Law k limit accepts id [] (fresh k limit accepts id)
-  law_first lawful = law_from [] (fresh k limit accepts id)
+  pub law_first : Law k limit accepts id [] (fresh k limit accepts id)
+  law_first = law_from [] (fresh k limit accepts id)
       (record { is = refl; sound = sound_first id; document = refl; never = λ before after is. small before after is })
       (nowhere id (Answered k limit accepts id)) (nowhere id (Takes id)) where
         small : (before after : List Event) → [] ≡ before ++ after → k.size (document_of k before) ≤ limit
         small [] after is = let n = lawful.nothing_in_empty in omega arith
         small (d ∷ before) after is = cc
 
-  pub law_of_run : Lawful k limit → (history : History) (hub : Hub k) → Runs k limit accepts id history hub → Law k limit accepts id history hub
-  law_of_run lawful history hub none = law_first lawful
-  law_of_run lawful history hub (more t then run made) = law_next _ _ t then (law_of_run lawful _ _ run) made
+  pub law_of_run : (history : History) (hub : Hub k) → Runs k limit accepts id history hub → Law k limit accepts id history hub
+  law_of_run history hub none = law_first
+  law_of_run history hub (more t then run made) = law_next _ _ t then (law_of_run _ _ run) made
 
 pub every_run_keeps_the_law : (k : Kind) (limit : ℕ) → Lawful k limit → EveryRunKeepsTheLaw k limit
-every_run_keeps_the_law k limit lawful accepts id history hub run = law_of_run k limit accepts id lawful history hub run
+every_run_keeps_the_law k limit lawful accepts id history hub run = law_of_run k limit lawful accepts id history hub run
 
-pub one_call_more : (k : Kind) (limit : ℕ) → OneCallMoreKeepsTheLaw k limit
-one_call_more k limit accepts id history hub t then law made = law_next k limit accepts id history hub t then law made
+pub one_call_more : (k : Kind) (limit : ℕ) → Lawful k limit → OneCallMoreKeepsTheLaw k limit
+one_call_more k limit lawful accepts id history hub t then law made = law_next k limit lawful accepts id history hub t then law made
 
 -- ---- the law leaves nothing open
 
@@ -159,10 +162,10 @@ module _ (own : ℕ) (ds : List Event) (c : ℕ) where
           ∙ ap (λ n. Some (record { client = q.client; clock = q.clock; time = n; state = r.state })) c
           ∙ ap (λ u. Some (record { client = q.client; clock = q.clock; time = q.time; state = u })) d
 
-pub nothing_is_open : (k : Kind) (limit : ℕ) → TheLawLeavesNothingOpen k limit
-nothing_is_open k limit accepts id history one other p q =
-    let a = kept_from k limit accepts id history one p in
-    let b = kept_from k limit accepts id history other q in
+pub nothing_is_open : (k : Kind) (limit : ℕ) → Lawful k limit → TheLawLeavesNothingOpen k limit
+nothing_is_open k limit lawful accepts id history one other p q =
+    let a = kept_from k limit lawful accepts id history one p in
+    let b = kept_from k limit lawful accepts id history other q in
     let rows : one.rows ≡ other.rows = same_rows client_of one.rows other.rows a.sound.up b.sound.up (λ c. one_held id (events id history) c (held_of c one.rows) (held_of c other.rows) (a.sound.holds c) (b.sound.holds c)) in
     let owns : one.own ≡ other.own = a.is ∙ sym b.is in
     let documents : one.document ≡ other.document = a.document ∙ sym b.document in

@@ -11,4 +11,5 @@ pub mod Documents
 pub mod Messages
 pub mod Handles
 pub mod Calls
+pub mod Exchanges
 pub mod Keeping

@@ -4,6 +4,7 @@
 --   own        of its own client it holds the account; nothing received makes a live own text null; the own clock is as high as every clock received for it, and above each null received while a text was held
 --   times      the clock is read once for each presence update and each set that is accepted, and for the removal of one of whom nothing was held; a record has the time of what last inserted, replaced or raised it
 --   document   the document is the empty one joined with every update that was accepted, and never was past its limit
+--   exchange   where the hub wrote a step 1, another hub of the kind was handed it and replied with a step 2, and the hub is handed that, among any messages and after any calls, it accepts it exactly where the join of the two documents is within its limit, and then has that join
 use Rattle.std.specs.Prelude.{◌≡◌, ◌≢◌, ℕ, ◌+◌, ◌≤◌, Bool, true, List, [], ◌∷◌, ◌++◌, Some, None, Option}
 use Rattle.state_vector.specs.Tables.{ascends}
 use Rattle.message.specs.Message.{Said}
@@ -17,10 +18,7 @@ use Rattle.law.specs.Model.{Runs, Made}
 use Rattle.law.specs.Events.{Event, came, events, arrived, Live, AtLeast, account, document_of}
 use Rattle.law.specs.Shown.{standing, Last}
 use Rattle.law.specs.Answers.{Answered, Takes}
-
--- at each place of a history, what was told there is so after what happened before
-abbrev pub AtEach : ℕ → (List Event → Told → Type 0) → History → Type 0
-AtEach own So history = (before : History) (t : Told) (after : History) → history ≡ before ++ t ∷ after → So (events own before) t
+use Rattle.law.specs.Exchange.{AtEach, Exchanges}
 
 -- the own client
 pub record Own (own : ℕ) (ds : List Event) (o : Option Record) : Type 0 where
@@ -56,6 +54,7 @@ module _ (k : Kind) (limit : ℕ) where
       pub own : Own id (events id history) (held_of id hub.rows)
       pub times : Times id history hub.rows
       pub document : Document id history hub.document
+      pub exchange : Exchanges k limit id history hub.document
 
   -- every run of calls from a fresh hub on keeps the law, whatever the policy's verdicts and the readings of the clock are
   abbrev pub EveryRunKeepsTheLaw : Type 0

@@ -3,4 +3,5 @@ pub mod Model
 pub mod Events
 pub mod Shown
 pub mod Answers
+pub mod Exchange
 pub mod Law

@@ -61,6 +61,9 @@ pub record Told : Type 0 where
   pub answer : Answer
   pub readings : List ℕ
 
+abbrev pub told : Call → Answer → List ℕ → Told
+told c a ns = record { call = c; answer = a; readings = ns }
+
 -- what was told, from the first call on
 abbrev pub History : Type 0
 History = List Told
