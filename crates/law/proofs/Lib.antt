@@ -1,0 +1,15 @@
+pub mod Histories
+pub mod Arrivals
+pub mod Pins
+pub mod Accounts
+pub mod Onward
+pub mod Rooms
+pub mod Writings
+pub mod Alike
+pub mod Readings
+pub mod Documents
+pub mod Messages
+pub mod Handles
+pub mod Calls
+pub mod Exchanges
+pub mod Keeping
