@@ -77,44 +77,31 @@ module _ {C : Type 0} (next : C → ℕ) (leads : C → C → Type 0) (k : Kind)
     long : length here.buffer ≡ length start.buffer
     long = ap length w.stand ∙ length_stood start.buffer 0 w.replies (let f = w.fits in omega arith)
 
-    -- with no reading to come
-    nothing_later : handle k limit accepted (length start.buffer) w.readings start.hub bytes
-        ≡ walk k limit accepted (length start.buffer) (length bytes) done.place rest (record { count = done.messages; hub = here.hub; replies = w.replies; readings = [] })
-    nothing_later = ap (λ ns. handle k limit accepted (length start.buffer) ns start.hub bytes) (sym (append-nil w.readings)) ∙ w.goes []
+    abbrev so : List ℕ → Sofar k limit accepted
+    so later = record { count = done.messages; hub = here.hub; replies = w.replies; readings = later }
 
     -- reading ended
-    ended_by : (h : Handling k limit accepted) (r : Result Done Refusal) → handle k limit accepted (length start.buffer) w.readings start.hub bytes ≡ h → r ≡ h.answer → here.hub ≡ h.hub → w.replies ≡ h.replies → h.left ≡ [] → Handles next leads k limit accepted bytes start here r
-    ended_by h r e a i p l = record {
-      readings = w.readings;
-      read = w.read;
-      answer = a ∙ sym (ap (λ (x : Handling k limit accepted). x.answer) e);
-      hub = i ∙ sym (ap (λ (x : Handling k limit accepted). x.hub) e);
-      replies = w.stand ∙ ap (stood start.buffer 0) (p ∙ sym (ap (λ (x : Handling k limit accepted). x.replies) e));
-      all_read = ap (λ (x : Handling k limit accepted). x.left) e ∙ l;
-    }
+    ended_by : (r : Result Done Refusal) → ((later : List ℕ) → walk k limit accepted (length start.buffer) (length bytes) done.place rest (so later) ≡ record { answer = r; hub = here.hub; replies = w.replies; left = later }) → Handles next leads k limit accepted bytes start here r
+    ended_by r e = record { readings = w.readings; read = w.read; replies = w.replies; does = λ later. w.goes later ∙ e later; stand = w.stand }
 
-    abbrev so : Sofar k limit accepted
-    so = record { count = done.messages; hub = here.hub; replies = w.replies; readings = [] }
-
-    told_so : (p q : ℕ) → p ≡ q → ◌≡◌ {A = Result Done Refusal} (Ok (record { messages = done.messages; place = p; replies = done.replies })) (Ok (record { messages = done.messages; place = q; replies = length w.replies }))
-    told_so p q e = ap (λ n. Ok (record { messages = done.messages; place = n; replies = done.replies })) e ∙ ap (λ n. Ok (record { messages = done.messages; place = q; replies = n })) w.told
+    told_so : (p : ℕ) → p ≡ done.place → ◌≡◌ {A = Result Done Refusal} (Ok (record { messages = done.messages; place = p; replies = length w.replies })) (Ok done)
+    told_so p e = ap (λ n. Ok (record { messages = done.messages; place = n; replies = length w.replies })) e ∙ ap (λ n. Ok (record { messages = done.messages; place = done.place; replies = n })) (sym w.told)
 
     pub walked_end : length rest ≡ 0 → Handles next leads k limit accepted bytes start here (Ok done)
     walked_end z =
         let none : rest ≡ [] = nil_from_length rest z in
-        ended_by (at_end k limit accepted (length bytes) so end_ended) (Ok done) (nothing_later ∙ walk_end k limit accepted (length start.buffer) (length bytes) done.place rest so none)
-        (told_so done.place (length bytes) (omega (arith, w.place, w.within))) refl refl refl
+        ended_by (Ok done) (λ later. walk_end k limit accepted (length start.buffer) (length bytes) done.place rest (so later) none
+        ∙ ap (λ r. record { answer = r; hub = here.hub; replies = w.replies; left = later }) (told_so (length bytes) (omega (arith, w.place, w.within, z))))
 
     pub walked_cut : (length rest ≡ 0 → ⊥) → message rest ≡ Err EndOfBuffer → Handles next leads k limit accepted bytes start here (Ok done)
     walked_cut nz e =
-        ended_by (at_end k limit accepted (length bytes) so (end_cut done.place)) (Ok done) (nothing_later ∙ walk_cut k limit accepted (length start.buffer) (length bytes) done.place rest so (omega (arith, nz)) e)
-        (told_so done.place done.place refl) refl refl refl
+        ended_by (Ok done) (λ later. walk_cut k limit accepted (length start.buffer) (length bytes) done.place rest (so later) (omega (arith, nz)) e
+        ∙ ap (λ r. record { answer = r; hub = here.hub; replies = w.replies; left = later }) (told_so done.place refl))
 
     pub walked_refused : (f : WireFault) → (length rest ≡ 0 → ⊥) → message rest ≡ Err f → (wire_number f ≡ 2 → ⊥) → Handles next leads k limit accepted bytes start here (Err (record { fault = Wire f; message = done.messages; place = done.place; replies = done.replies }))
     walked_refused f nz e ne =
-        ended_by (at_end k limit accepted (length bytes) so (end_refused done.place f)) (Err (record { fault = Wire f; message = done.messages; place = done.place; replies = done.replies }))
-        (nothing_later ∙ walk_refused k limit accepted (length start.buffer) (length bytes) done.place rest f so (omega (arith, nz)) e ne)
-        (ap (λ n. Err (record { fault = Wire f; message = done.messages; place = done.place; replies = n })) w.told) refl refl refl
+        ended_by (Err (record { fault = Wire f; message = done.messages; place = done.place; replies = done.replies })) (λ later. walk_refused k limit accepted (length start.buffer) (length bytes) done.place rest f (so later) (omega (arith, nz)) e ne
+        ∙ ap (λ n. record { answer = Err (record { fault = Wire f; message = done.messages; place = done.place; replies = n }); hub = here.hub; replies = w.replies; left = later }) (sym w.told))
 
     -- as the fault says where reading ended
     pub walked_stopped : (f : WireFault) (r : Result Done Refusal) → (length rest ≡ 0 → ⊥) → message rest ≡ Err f → r ≡ cond (eqb (wire_number f) 2) (Ok done) (Err (record { fault = Wire f; message = done.messages; place = done.place; replies = done.replies })) → Handles next leads k limit accepted bytes start here r
@@ -237,20 +224,22 @@ module _ {C : Type 0} (next : C → ℕ) (leads : C → C → Type 0) (k : Kind)
           and_false true = refl
           and_false false = refl
 
-        abbrev so_far : Sofar k limit accepted
-        so_far = record { count = done.messages; hub = here.hub; replies = w.replies; readings = [] }
+        hub_now : (now : ℕ) → then.hub ≡ (does now).hub
+        hub_now now = st.hub_unread now (ap (λ (s : Step k). s.reads) (is_one now) ∙ unread now) ∙ ap (λ (s : Step k). s.hub) (is_one now)
 
-        ends_so : handle k limit accepted (length start.buffer) w.readings start.hub bytes ≡ record { answer = Err (record { fault = f; message = done.messages; place = done.place; replies = length w.replies }); hub = (does 0).hub; replies = w.replies; left = [] }
-        ends_so = ap (λ ns. handle k limit accepted (length start.buffer) ns start.hub bytes) (sym (append-nil w.readings)) ∙ goes_on []
-            ∙ ap (λ v. onward k limit accepted (walk k limit accepted (length start.buffer) (length bytes) (length bytes - length after) after) so_far done.place (record { verdict = v; hub = (does 0).hub; reply = (does 0).reply; reads = (does 0).reads })) (fails 0)
+        ends_so : (later : List ℕ) → handle k limit accepted (length start.buffer) (w.readings ++ later) start.hub bytes ≡ record { answer = Err (record { fault = f; message = done.messages; place = done.place; replies = done.replies }); hub = then.hub; replies = w.replies; left = later }
+        ends_so later =
+            let now = next_reading k limit accepted later in
+            goes_on later
+            ∙ ap (λ v. onward k limit accepted (walk k limit accepted (length start.buffer) (length bytes) (length bytes - length after) after) (so later) done.place (record { verdict = v; hub = (does now).hub; reply = (does now).reply; reads = (does now).reads })) (fails now)
+            ∙ ap (λ n. record { answer = Err (record { fault = f; message = done.messages; place = done.place; replies = n }); hub = (does now).hub; replies = w.replies; left = later }) (sym w.told)
+            ∙ ap (λ h. record { answer = Err (record { fault = f; message = done.messages; place = done.place; replies = done.replies }); hub = h; replies = w.replies; left = later }) (sym (hub_now now))
 
         pub walked_off : Handles next leads k limit accepted bytes start then (Err (record { fault = f; message = done.messages; place = done.place; replies = done.replies }))
         walked_off = record {
           readings = w.readings;
           read = subst (λ c. Reads next leads start.clock w.readings c) (sym (subst (λ x. ReadIf leads x here.clock then.clock) (ap (λ (s : Step k). s.reads) (is_one 0) ∙ unread 0) (st.clock 0))) w.read;
-          answer = ap (λ n. Err (record { fault = f; message = done.messages; place = done.place; replies = n })) w.told ∙ sym (ap (λ (x : Handling k limit accepted). x.answer) ends_so);
-          hub = st.hub_unread 0 (ap (λ (s : Step k). s.reads) (is_one 0) ∙ unread 0) ∙ ap (λ (s : Step k). s.hub) (is_one 0) ∙ sym (ap (λ (x : Handling k limit accepted). x.hub) ends_so);
-          replies = st.reply 0 ∙ ap (λ (s : Step k). stood here.buffer done.replies s.reply) (is_one 0) ∙ ap (λ b. stood here.buffer done.replies b) (reply_none k limit accepted room here.hub 0 m f (fails 0)) ∙ stood_none here.buffer done.replies ∙ w.stand
-              ∙ sym (ap (λ (x : Handling k limit accepted). stood start.buffer 0 x.replies) ends_so);
-          all_read = ap (λ (x : Handling k limit accepted). x.left) ends_so;
+          replies = w.replies;
+          does = ends_so;
+          stand = st.reply 0 ∙ ap (λ (s : Step k). stood here.buffer done.replies s.reply) (is_one 0) ∙ ap (λ b. stood here.buffer done.replies b) (reply_none k limit accepted room here.hub 0 m f (fails 0)) ∙ stood_none here.buffer done.replies ∙ w.stand;
         }

@@ -2,7 +2,7 @@
 --   hub_of    what a hub means, by its records and its host's document
 --   Stepped   what one message does
 --   Handled   what handling bytes does
-use Rattle.std.specs.Prelude.{◌≡◌, ℕ, ◌+◌, ◌-◌, Bool, false, List, [], length, Ok, Err, Result}
+use Rattle.std.specs.Prelude.{◌≡◌, ℕ, ◌+◌, ◌-◌, Bool, false, List, [], ◌++◌, length, Ok, Err, Result}
 use Rattle.encoding.specs.declared.fault.WireFault.{WireFault}
 use Rattle.encoding.specs.Fields.{client_id}
 use Rattle.std.specs.Result.{result_and}
@@ -57,8 +57,9 @@ pub record Handles {C : Type 0} (next : C → ℕ) (leads : C → C → Type 0) 
   -- the readings of the clock, one for each presence update that was taken
   pub readings : List ℕ
   pub read : Reads next leads old.clock readings new.clock
-  pub answer : r ≡ (handle k limit accepted (length old.buffer) readings old.hub bytes).answer
-  pub hub : new.hub ≡ (handle k limit accepted (length old.buffer) readings old.hub bytes).hub
-  pub replies : new.buffer ≡ stood old.buffer 0 (handle k limit accepted (length old.buffer) readings old.hub bytes).replies
-  -- no reading is left over
-  pub all_read : (handle k limit accepted (length old.buffer) readings old.hub bytes).left ≡ []
+  -- the bytes of the replies
+  pub replies : List ℕ
+  -- the answer, the hub then and the replies, whatever the clock would tell later
+  pub does : (later : List ℕ) → handle k limit accepted (length old.buffer) (readings ++ later) old.hub bytes ≡ record { answer = r; hub = new.hub; replies = replies; left = later }
+  -- they stand in the buffer, and the rest of it is as it was
+  pub stand : new.buffer ≡ stood old.buffer 0 replies

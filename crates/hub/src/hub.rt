@@ -26,10 +26,10 @@ use state_vector::vector::StateVector;
 // A hub over any host of documents, any clock and any policy.
 #[derive(Drop)]
 pub struct Hub<H, C, P> {
-    presence: Awareness,
-    host: H,
-    clock: C,
-    policy: P,
+    pub(crate) presence: Awareness,
+    pub(crate) host: H,
+    pub(crate) clock: C,
+    pub(crate) policy: P,
 }
 
 impl<H: DocumentHost, C: Clock + Drop, P: Policy + Drop> Hub<H, C, P> {

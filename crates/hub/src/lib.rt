@@ -1,5 +1,6 @@
 // A hub: messages handled, one after another.
 #![tactic(auto)]
 
+pub mod presence;
 pub mod hub;
 pub mod live;
