@@ -8,15 +8,16 @@
 use Rattle.std.specs.Prelude.{◌≡◌, ◌≢◌, ℕ, ◌+◌, ◌≤◌, Bool, true, List, [], ◌∷◌, ◌++◌, Some, None, Option}
 use Rattle.state_vector.specs.Tables.{ascends}
 use Rattle.message.specs.Message.{Said}
-use Rattle.message.specs.Presence.{Entry}
-use Rattle.awareness.specs.Newest.{HoldsNewest}
+use Rattle.message.specs.Presence.{Entry, presence}
+use Rattle.awareness.specs.Calls.{apply}
+use Rattle.awareness.specs.Newest.{HoldsNewest, Live as LiveText}
 use Rattle.awareness.specs.Record.{Record, client_of, held_of}
 use Rattle.document.specs.Kind.{Kind}
-use Rattle.calls.specs.Handling.{Hub}
-use Rattle.law.specs.Words.{Told, History}
+use Rattle.calls.specs.Handling.{Hub, one, handle}
+use Rattle.law.specs.Words.{Call, Told, History}
 use Rattle.law.specs.Model.{Runs, Made}
 use Rattle.law.specs.Events.{Event, came, events, arrived, Live, AtLeast, account, document_of}
-use Rattle.law.specs.Shown.{standing, Last}
+use Rattle.law.specs.Shown.{standing, Last, Holds}
 use Rattle.law.specs.Answers.{Answered, Takes}
 use Rattle.law.specs.Exchange.{AtEach, Exchanges}
 
@@ -67,3 +68,24 @@ module _ (k : Kind) (limit : ℕ) where
   -- the law leaves nothing open: two hubs that keep it with one history hold the same
   abbrev pub TheLawLeavesNothingOpen : Type 0
   TheLawLeavesNothingOpen = (accepts : Said → Bool) (id : ℕ) (history : History) (one other : Hub k) → Law accepts id history one → Law accepts id history other → one ≡ other
+
+  -- what happened is what is held: of each client that which show, list and the reply to a query tell
+  abbrev pub WhatHappenedIsHeld : Type 0
+  WhatHappenedIsHeld = (accepts : Said → Bool) (id : ℕ) (history : History) (hub : Hub k) → Law accepts id history hub → (c : ℕ) → Holds id (events id history) c (held_of c hub.rows)
+
+  -- a policy with the same verdicts leaves the same law
+  abbrev pub SameVerdictsSameLaw : Type 0
+  SameVerdictsSameLaw = (accepts also : Said → Bool) (id : ℕ) (history : History) (hub : Hub k) → ((m : Said) → also m ≡ accepts m) → Law accepts id history hub → Law also id history hub
+
+  -- every call can be made on every hub
+  abbrev pub EveryCallCanBeMade : Type 0
+  EveryCallCanBeMade = (accepts : Said → Bool) (hub : Hub k) (call : Call) → (t : Told) × (then : Hub k) × (t.call ≡ call) × Made k limit accepts hub t then
+
+  -- nothing received makes a live own text null, said of the hub before and after
+  pub record OwnTextsStay : Type 0 where
+    -- each message
+    pub of_a_message : (accepts : Said → Bool) (room now : ℕ) (hub : Hub k) (m : Said) → ascends client_of hub.rows ≡ true → LiveText (held_of hub.own hub.rows) → LiveText (held_of hub.own (one k limit accepts room now hub m).hub.rows)
+    -- a handle
+    pub of_a_handle : (accepts : Said → Bool) (room : ℕ) (readings : List ℕ) (hub : Hub k) (bytes : List ℕ) → ascends client_of hub.rows ≡ true → LiveText (held_of hub.own hub.rows) → LiveText (held_of hub.own (handle k limit accepts room readings hub bytes).hub.rows)
+    -- and an apply
+    pub of_an_apply : (enough : Bool) (own now : ℕ) (rows : List Record) (bytes : List ℕ) → ascends client_of rows ≡ true → LiveText (held_of own rows) → LiveText (held_of own (apply enough own now rows (presence bytes)).rows)
