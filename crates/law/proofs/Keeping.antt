@@ -12,7 +12,8 @@ use Rattle.law.specs.Events.{Event, events, Account, AtLeast, account, document_
 use Rattle.law.specs.Shown.{standing, Touches, reading_of, Last, TimeOf, Holds}
 use Rattle.law.specs.Answers.{Answered, Takes}
 use Rattle.law.specs.Exchange.{AtEach}
-use Rattle.law.specs.Law.{Law, EveryRunKeepsTheLaw, OneCallMoreKeepsTheLaw, TheLawLeavesNothingOpen, WhatHappenedIsHeld, SameVerdictsSameLaw}
+use Rattle.law.specs.Law.{Law}
+use Rattle.law.specs.Promises.{EveryRunKeepsTheLaw, OneCallMoreKeepsTheLaw, TheLawLeavesNothingOpen, WhatHappenedIsHeld, SameVerdictsSameLaw}
 use Rattle.law.proofs.Accounts.{clock_led, null_passed, text_stays}
 use Rattle.law.proofs.Calls.{CallSo, call_so}
 use Rattle.law.proofs.Exchanges.{exchanges}

@@ -15,3 +15,4 @@ pub mod Exchanges
 pub mod Keeping
 pub mod Texts
 pub mod Making
+pub mod Steps

@@ -1,17 +1,16 @@
 -- Every call can be made: where each reading is 0, so many of them are taken.
-use Rattle.std.proofs.Common.{◌≡◌, ℕ, zero, suc, ◌+◌, ◌-◌, Bool, true, false, cond, ◌&&◌, List, [], ◌∷◌, ◌++◌, length, is_ok, is_none, Ok, Err, Result, sym, refl, ap, ◌∙◌, subst, arith}
+use Rattle.std.proofs.Common.{◌≡◌, ℕ, zero, suc, ◌-◌, Bool, true, false, ◌&&◌, List, [], ◌∷◌, ◌++◌, length, is_ok, is_none, Ok, Err, Result, sym, refl, ap, ◌∙◌}
 use Rattle.message.specs.Message.{Said}
 use Rattle.message.specs.Messages.{Ending, ended, cut, refused, messages}
 use Rattle.message.specs.Presence.{presence}
-use Rattle.encoding.specs.Fields.{client_id}
 use Rattle.awareness.specs.Calls.{apply as applied_to, set as set_to, remove as removed_from}
 use Rattle.awareness.specs.Record.{held_of}
 use Rattle.document.specs.Kind.{Kind}
 use Rattle.calls.specs.declared.fault.Fault.{Fault}
-use Rattle.calls.specs.Handling.{Hub, Step, Handling, Sofar, next_reading, after_reading, at_end, onward, each, one, handle as handled_by}
-use Rattle.law.specs.Words.{Call, handle, apply, set, clean, remove, step1, start, show, list, Told}
-use Rattle.law.specs.Model.{removing, perform, Made}
-use Rattle.law.specs.Law.{EveryCallCanBeMade}
+use Rattle.calls.specs.Handling.{Hub, Step, Handling, Sofar, next_reading, after_reading, at_end, onward, each, one}
+use Rattle.law.specs.Words.{Call, handle, apply, set, clean, remove, step1, start, show, list}
+use Rattle.law.specs.Model.{removing, perform}
+use Rattle.law.specs.Promises.{EveryCallCanBeMade}
 
 -- so many readings, each 0, before others
 abbrev padded : ℕ → List ℕ → List ℕ

@@ -1,5 +1,5 @@
 -- Nothing received makes a live own text null.
-use Rattle.std.proofs.Common.{◌≡◌, ℕ, ◌-◌, suc, Bool, true, false, cond, List, [], ◌∷◌, ◌++◌, length, Ok, Err, Option, Result, sym, refl, ap, ◌∙◌, subst}
+use Rattle.std.proofs.Common.{◌≡◌, ℕ, ◌-◌, suc, Bool, true, false, List, [], ◌∷◌, ◌++◌, length, Ok, Err, Result, sym, refl, subst}
 use Rattle.encoding.specs.declared.fault.WireFault.{WireFault}
 use Rattle.encoding.specs.Reading.{Reading}
 use Rattle.state_vector.specs.declared.vector.VectorEntry.{VectorEntry}
@@ -20,8 +20,8 @@ use Rattle.awareness.proofs.Own.{own_texts_stay}
 use Rattle.awareness.proofs.Received.{ascends_taken}
 use Rattle.document.specs.Kind.{Kind}
 use Rattle.calls.specs.declared.fault.Fault.{Fault}
-use Rattle.calls.specs.Handling.{Hub, Step, Handling, Sofar, fits, replied, asked, next_reading, after_reading, at_end, onward, each, one, handle}
-use Rattle.law.specs.Law.{OwnTextsStay}
+use Rattle.calls.specs.Handling.{Hub, Step, Handling, Sofar, fits, replied, asked, next_reading, after_reading, at_end, onward, each, one}
+use Rattle.law.specs.Promises.{OwnTextsStay}
 
 -- records that ascend, with a live own text
 pub record Shines (own : ℕ) (rows : List Record) : Type 0 where

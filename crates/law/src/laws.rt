@@ -1,5 +1,5 @@
 // What every run of calls comes to, over any host: each the contract of a function.
-ghost use Rattle.law.specs.Law.{EveryRunKeepsTheLaw, OneCallMoreKeepsTheLaw, TheLawLeavesNothingOpen, WhatHappenedIsHeld, SameVerdictsSameLaw, EveryCallCanBeMade, OwnTextsStay};
+ghost use Rattle.law.specs.Promises.{EveryRunKeepsTheLaw, OneCallMoreKeepsTheLaw, TheLawLeavesNothingOpen, WhatHappenedIsHeld, SameVerdictsSameLaw, EveryCallCanBeMade, OwnTextsStay};
 
 use document::host::DocumentHost;
 
