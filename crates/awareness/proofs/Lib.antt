@@ -2,11 +2,14 @@ pub mod Entered
 pub mod Coming
 pub mod Judging
 pub mod Walking
-pub mod Seating
+pub mod Newcomers
 pub mod Following
-pub mod Tests
+pub mod Next
+pub mod Summaries
+pub mod Verdicts
 pub mod Received
 pub mod Lists
 pub mod Own
 pub mod Times
 pub mod Newest
+pub mod Asked

@@ -11,7 +11,7 @@ use Rattle.awareness.specs.Changes.{change_by, changes, is_added, is_updated, is
 use Rattle.awareness.specs.Record.{Record, held_of}
 use Rattle.awareness.specs.Taking.{received, taken}
 use Rattle.awareness.specs.Newest.{Adds, Updates, Alters, Removes, Did, Tells, ListsTellWhatWasDone}
-use Rattle.awareness.proofs.Tests.{adds, updates, alters, removes}
+use Rattle.awareness.proofs.Verdicts.{adds, updates, alters, removes}
 
 module _ {X : Type 0} where
   -- what a list has is its first element, or in the rest

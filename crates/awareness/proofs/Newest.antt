@@ -8,7 +8,7 @@ use Rattle.awareness.specs.Record.{Record, client_of, above, entry_of, held_of}
 use Rattle.awareness.specs.Taking.{plain, defies, lifted, received, taken, next_clock, removed, stored}
 use Rattle.awareness.specs.Newest.{Beats, entry_of_client, Came, Newest, HoldsNewest, Update, taken_in_turn, entries_of, TablesHoldTheNewest}
 use Rattle.awareness.proofs.Received.{left, Of, held_is_of, held_left, held_else, ascends_received, ascends_taken, held_stored, held_besides}
-use Rattle.awareness.proofs.Tests.{raises, beats, kept_clock}
+use Rattle.awareness.proofs.Verdicts.{raises, beats, kept_clock}
 
 -- an entry of a client is told by its clock and state
 told : (c : ℕ) (e : Entry) → e.client ≡ c → e ≡ entry_of_client c e.clock e.state

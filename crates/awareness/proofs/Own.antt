@@ -8,7 +8,7 @@ use Rattle.awareness.specs.Record.{Record, client_of, above, held_of}
 use Rattle.awareness.specs.Taking.{plain, defies, lifted, met, received, taken, next_clock}
 use Rattle.awareness.specs.Newest.{Update, taken_in_turn, entries_of, Live, OwnTextsStay, Reaches, OwnClocksLead}
 use Rattle.awareness.proofs.Lists.{head_or_tail}
-use Rattle.awareness.proofs.Tests.{raises, beats, beats_clock, kept_clock}
+use Rattle.awareness.proofs.Verdicts.{raises, beats, beats_clock, kept_clock}
 use Rattle.awareness.proofs.Received.{left, Of, held_is_of, held_left, ascends_received, ascends_taken, taken_append, stays_received, stays_taken, stays_in_turn}
 
 module _ (own now : ℕ) where

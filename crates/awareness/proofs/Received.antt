@@ -7,8 +7,8 @@ use Rattle.state_vector.proofs.Keys.{held_key}
 use Rattle.message.specs.Presence.{Entry}
 use Rattle.awareness.specs.Record.{Record, client_of, above, held_of}
 use Rattle.awareness.specs.Taking.{plain, defies, lifted, met, newcomer, received, taken, stored}
-use Rattle.awareness.specs.Newest.{Update, taken_in_turn}
-use Rattle.awareness.proofs.Tests.{raises}
+use Rattle.awareness.specs.Newest.{Update, taken_in_turn, WinnersAreStored}
+use Rattle.awareness.proofs.Verdicts.{raises}
 
 -- the record of an entry's client after it came, by what was held
 abbrev pub left : ℕ → ℕ → Option Record → Entry → Record
@@ -108,3 +108,6 @@ held_stored rows r up = held_own client_of always rows r up ∙ ap Some (first (
 
 pub held_besides : (rows : List Record) (r : Record) (c : ℕ) → (r.client ≡ c → ⊥) → held_of c (stored rows r) ≡ held_of c rows
 held_besides rows r c ne = held_other client_of always c rows r ne
+
+pub winners_are_stored : WinnersAreStored
+winners_are_stored own now rows e r up is = held_left own now rows e e.client up refl ∙ ap (λ o. Some (left own now o e)) is

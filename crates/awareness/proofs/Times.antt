@@ -6,7 +6,7 @@ use Rattle.message.specs.Presence.{Entry}
 use Rattle.awareness.specs.Record.{Record, client_of, outranks, held_of}
 use Rattle.awareness.specs.Taking.{plain, defies, lifted, received, taken}
 use Rattle.awareness.specs.Newest.{Raises, Beats, Touches, Did, Timed, TimesTellTheLastChange}
-use Rattle.awareness.proofs.Tests.{raises, beats}
+use Rattle.awareness.proofs.Verdicts.{raises, beats}
 use Rattle.awareness.proofs.Received.{left, held_left, held_else, ascends_received, ascends_taken, taken_append, stays_taken}
 
 -- of what two tests choose, the time is that of what was touched

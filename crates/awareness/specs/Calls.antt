@@ -14,13 +14,15 @@
 --   summary_of   the lengths of the four lists of changes
 --   lists_over   a list over the caller's places
 --   all_known    each of the clients is held
+--   Written      what is written, in the caller's buffer
 --   listing      the update of some clients, or why there is none
-use Rattle.std.specs.Prelude.{◌≡◌, ℕ, ◌^◌, Bool, true, false, cond, List, [], ◌∷◌, map, filter, length, Some, None, Ok, Err, Option, Result, is_some, ◌==◌, nat_le, nat_lt, ◌||◌}
-use Rattle.std.specs.List.{list_all}
+use Rattle.std.specs.Prelude.{◌≡◌, ℕ, ◌^◌, ◌<◌, Bool, true, false, cond, List, [], ◌∷◌, map, filter, length, Some, None, Ok, Err, Option, Result, is_some, ◌==◌, nat_le, nat_lt}
+use Rattle.std.specs.List.{list_all, list_any}
 use Rattle.std.specs.Result.{result_and}
 use Rattle.encoding.specs.declared.fault.WireFault.{WireFault}
 use Rattle.encoding.specs.Fields.{client_id, count, presence_text}
 use Rattle.encoding.specs.Reading.{Reading}
+use Rattle.encoding.specs.TwoSinks.{stood}
 use Rattle.message.specs.Presence.{Entry, state_of}
 use Rattle.message.specs.Writing.{presence_out}
 use Rattle.awareness.specs.declared.fault.AwarenessFault.{AwarenessFault}
@@ -111,8 +113,7 @@ all_known rows cs = list_all (λ c. is_some (held_of c rows)) cs
 
 -- one of the numbers is this one
 abbrev pub has : List ℕ → ℕ → Bool
-has [] n = false
-has (c ∷ cs) n = (c == n) || has cs n
+has cs n = list_any (λ c. c == n) cs
 
 -- the bytes of the update of some records, ascending, each once
 abbrev pub update_of : (Record → Bool) → List Record → List ℕ
@@ -134,3 +135,9 @@ listing_of (Ok u) rows cs = known (all_known rows cs) rows cs
 
 abbrev pub listing : List Record → List ℕ → Result (List ℕ) AwarenessFault
 listing rows cs = listing_of (result_and (count (length cs)) (all_ids cs)) rows cs
+
+-- the bytes stand at the front of the buffer, and their number is told; or they do not fit, or there are none: then the buffer is as it was
+abbrev pub Written : List ℕ → Result (List ℕ) AwarenessFault → Result ℕ AwarenessFault → List ℕ → Type 0
+Written old (Ok bs) (Ok n) new = (n ≡ length bs) × (new ≡ stood old 0 bs)
+Written old (Ok bs) (Err f) new = (f ≡ Short) × (length old < length bs) × (new ≡ old)
+Written old (Err f) r new = (r ≡ Err f) × (new ≡ old)

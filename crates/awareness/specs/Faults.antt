@@ -1,7 +1,6 @@
 -- The refusals of presence, with their numbers.
 --   presence_number   the number of a presence fault
 --   awareness_number   the number of a fault of a call
---   awareness_layer    ...
 use Rattle.std.specs.Prelude.{ℕ}
 use Rattle.encoding.specs.Fault.{wire_number}
 use Rattle.awareness.specs.declared.fault.PresenceFault.{PresenceFault}

@@ -21,13 +21,14 @@
 --   OwnClocksLead   the own clock is as high as any that came for it, and above each null that it met while live
 --   Timed           a record is held, with a time
 --   TimesTellTheLastChange   a record's time is that of the entries which touched it last
+--   WinnersAreStored   a record that an entry meets is held as what wins
 use Rattle.std.specs.Prelude.{◌≡◌, ℕ, ◌+◌, ◌<◌, ◌≤◌, Bool, true, ◌≢◌, ◌⊎◌, ◌↔◌, List, [], ◌∷◌, ◌++◌, Contains, Some, None, Option}
 use Rattle.state_vector.specs.Tables.{ascends}
 use Rattle.message.specs.Presence.{Entry}
 use Rattle.awareness.specs.declared.change.Change.{Change}
 use Rattle.awareness.specs.Changes.{changes, is_added, is_updated, is_changed, is_removed, listed}
 use Rattle.awareness.specs.Record.{Record, client_of, held_of}
-use Rattle.awareness.specs.Taking.{taken}
+use Rattle.awareness.specs.Taking.{met, received, taken}
 
 -- what client c says of itself at clock n
 abbrev pub entry_of_client : ℕ → ℕ → Option (List ℕ) → Entry
@@ -165,3 +166,7 @@ pub record TimesTellTheLastChange : Type 0 where
   pub touched_then : (own now : ℕ) (rows : List Record) (es : List Entry) (c : ℕ) → ascends client_of rows ≡ true → Did (Touches own) own now rows es c → Timed now (held_of c (taken own now rows es))
   -- what none did is as it was, with its time
   pub else_as_before : (own now : ℕ) (rows : List Record) (es : List Entry) (c : ℕ) → ascends client_of rows ≡ true → (Did (Touches own) own now rows es c → ⊥) → held_of c (taken own now rows es) ≡ held_of c rows
+
+-- an entry that meets a record leaves of its client what wins of the two
+abbrev pub WinnersAreStored : Type 0
+WinnersAreStored = (own now : ℕ) (rows : List Record) (e : Entry) (r : Record) → ascends client_of rows ≡ true → held_of e.client rows ≡ Some r → held_of e.client (received own now rows e) ≡ Some (met own now r e)

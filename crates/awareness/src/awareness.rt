@@ -8,7 +8,7 @@ ghost use Rattle.state_vector.specs.Tables.{ascends};
 ghost use Rattle.awareness.specs.Calls.{judged, rise_for, room_for};
 ghost use Rattle.awareness.specs.Record.{Record, Clients, client_of, held_of, Writable};
 ghost use Rattle.awareness.specs.Changes.{change_by, changes, comes, noted, same};
-ghost use Rattle.awareness.specs.Taking.{defies, rises, received, taken};
+ghost use Rattle.awareness.specs.Taking.{defies, rises, received, stored, taken};
 
 use crate::change::Change;
 use crate::fault::PresenceFault;
@@ -25,8 +25,8 @@ use std::marker::Model;
 // The own client id, and a record of each of at most 64 clients.
 #[derive(Drop)]
 pub struct Awareness {
-    own: u64,
-    table: Table<Record, MAX_ENTRIES>,
+    pub(crate) own: u64,
+    pub(crate) table: Table<Record, MAX_ENTRIES>,
 }
 
 impl Model for Awareness {
@@ -60,7 +60,7 @@ fn same(held: &Record, text: &[u8]) -> bool
 }
 
 // What an entry does to what is held of its client.
-fn change_by(own: u64, held: Option<&Record>, e: &ArrivedEntry<'_>) -> Change
+pub(crate) fn change_by(own: u64, held: Option<&Record>, e: &ArrivedEntry<'_>) -> Change
     ensures { result ≡ change_by own (option_copied held.entry) e.now }
 {
     let Some(held) = held else {
@@ -125,6 +125,7 @@ impl Awareness {
         requires rises { rises self.now.own (held_of e.now.client self.now.rows) e.now ≡ true }
         ensures change { result.0 ≡ change_by self.now.own (held_of e.now.client self.now.rows) e.now }
         ensures record { result.1 ≡ comes self.now.own now (held_of e.now.client self.now.rows) e.now }
+        ensures ascends { ascends client_of self.now.rows ≡ true }
     {
         let held = self.table.get(e.client());
         let change = change_by(self.own, held, e);
@@ -134,6 +135,17 @@ impl Awareness {
             _ => Some(Record::of(e, now)),
         };
         (change, record)
+    }
+
+    // Puts a record in the place of its client's, where there is a place.
+    pub(crate) fn store(&mut self, come: Record)
+        requires { length (stored self.old.rows come) ≤ 64 }
+        ensures rows { self.new.rows ≡ stored self.old.rows come }
+        ensures own { self.new.own ≡ self.old.own }
+    {
+        // a look at a field brings in what is true of every record
+        let _passed = &come.time;
+        self.table.put(come).unwrap();
     }
 
     // Takes an entry that finds a place, and whose clock can rise where it has to.
@@ -146,15 +158,13 @@ impl Awareness {
     {
         let (change, record) = self.meet(e, now);
         if let Some(record) = record {
-            // a look at a field brings in what is true of every record
-            let _passed = &record.time;
-            self.table.put(record).unwrap();
+            self.store(record);
         }
         change
     }
 
     // Whether all clients would find a place.
-    fn judge_room(&self, update: &ArrivedUpdate<'_>) -> Result<(), PresenceFault>
+    pub(crate) fn judge_room(&self, update: &ArrivedUpdate<'_>) -> Result<(), PresenceFault>
         ensures { (now : ℕ) → result ≡ room_for (taken self.now.own now self.now.rows update.now) }
     {
         if self.table.len() + update.len() <= MAX_ENTRIES {
@@ -174,7 +184,7 @@ impl Awareness {
     }
 
     // Whether the own clock could rise where it would have to.
-    fn judge_own(&self, update: &ArrivedUpdate<'_>) -> Result<(), PresenceFault>
+    pub(crate) fn judge_own(&self, update: &ArrivedUpdate<'_>) -> Result<(), PresenceFault>
         ensures { (now : ℕ) → result ≡ rise_for (held_of self.now.own (taken self.now.own now self.now.rows update.now)) }
     {
         let mut own = self.table.get(self.own).map(Standing::of);
@@ -187,11 +197,12 @@ impl Awareness {
     }
 
     // Takes the entries of an update that was judged, and tells of each change.
-    fn take<O: Observer>(&mut self, update: &ArrivedUpdate<'_>, now: u64, seen: &mut O)
+    pub(crate) fn take<O: Observer>(&mut self, update: &ArrivedUpdate<'_>, now: u64, seen: &mut O)
         requires { judged self.old.own (taken self.old.own now self.old.rows update.now) ≡ Ok tt }
         ensures rows { self.new.rows ≡ taken self.old.own now self.old.rows update.now }
         ensures own { self.new.own ≡ self.old.own }
         ensures seen { seen.new ≡ noted O.Observer.after seen.old (changes self.old.own now self.old.rows update.now) }
+        ensures ascended { ascends client_of self.old.rows ≡ true }
     {
         // a look at a field brings in that the records ascend
         let _held = &self.own;

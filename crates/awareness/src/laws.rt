@@ -1,5 +1,5 @@
 // What taking entries comes to: each the contract of a function.
-ghost use Rattle.awareness.specs.Newest.{TablesHoldTheNewest, ListsTellWhatWasDone, OwnTextsStay, OwnClocksLead, TimesTellTheLastChange};
+ghost use Rattle.awareness.specs.Newest.{TablesHoldTheNewest, ListsTellWhatWasDone, OwnTextsStay, OwnClocksLead, TimesTellTheLastChange, WinnersAreStored};
 
 // Entries taken into an empty table leave the newest of each other client.
 #[tactic(auto, using(crate::proofs::Newest::tables_hold_the_newest))]
@@ -29,4 +29,10 @@ pub fn own_clocks_lead()
 #[tactic(auto, using(crate::proofs::Times::times_tell_the_last_change))]
 pub fn times_tell_the_last_change()
     ensures { TimesTellTheLastChange }
+{}
+
+// What wins where an entry meets a record is what is held then.
+#[tactic(auto, using(crate::proofs::Received::winners_are_stored))]
+pub fn winners_are_stored()
+    ensures { WinnersAreStored }
 {}

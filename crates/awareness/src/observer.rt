@@ -15,6 +15,7 @@ pub trait Observer {
 }
 
 // Nobody is told.
+#[derive(Clone, Copy, Debug, Drop)]
 pub struct Nobody;
 
 impl Observer for Nobody {

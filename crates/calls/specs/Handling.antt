@@ -60,6 +60,10 @@ module _ (k : Kind) where
   asked room h (Ok v) = replied h (fits room (message_out (told_step2 (k.update h.document v))))
   asked room h (Err f) = judged h (Err (Wire f))
 
+  -- a query is replied to with all live records
+  abbrev pub queried : ℕ → Hub → Step
+  queried room h = replied h (fits room (message_out (told_awareness (map entry_of (filter live h.rows)))))
+
   -- a verdict of presence among those of all layers
   abbrev pub of_presence : Result (Unit {0}) AwarenessFault → Result (Unit {0}) Fault
   of_presence (Ok u) = Ok u
@@ -87,7 +91,7 @@ module _ (k : Kind) where
     one room now h (awareness part) = settled h (applied h.own now h.rows (presence part))
     one room now h (denied reason) = judged h (cond (accepted (denied reason)) (Ok tt) (Err (Policy PermissionDenied)))
     one room now h granted = judged h (cond (accepted granted) (Ok tt) (Err (Policy PermissionDenied)))
-    one room now h query = replied h (fits room (message_out (told_awareness (map entry_of (filter live h.rows)))))
+    one room now h query = queried room h
     one room now h (custom tag part) = judged h (cond (accepted (custom tag part)) (Ok tt) (Err (Policy Unsupported)))
 
     -- what all messages of a row do: the answer, the hub then, the bytes of the replies, and the readings that are left

@@ -1,3 +1,4 @@
 pub mod Faults
 pub mod Policies
 pub mod Handling
+pub mod Refusals

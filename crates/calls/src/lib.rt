@@ -4,3 +4,5 @@
 pub mod answer;
 pub mod fault;
 pub mod policy;
+#[cfg(test)]
+mod tests;

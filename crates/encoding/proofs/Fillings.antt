@@ -52,7 +52,7 @@ runs_fill s t (b ∷ bs) h r =
     (i.0 ∙ ap (λ k. stood m.out.now k bs) f.0 ∙ ap (λ l. stood l (s.at + 1) bs) f.1 ∙ stood_more s.out.now s.at b bs (omega arith), omega (arith, i.1), i.2 ∙ f.2)
 
 -- a buffer stays as long as it was
-length_stood : (old : List ℕ) (at : ℕ) (bs : List ℕ) → at + length bs ≤ length old → length (stood old at bs) ≡ length old
+pub length_stood : (old : List ℕ) (at : ℕ) (bs : List ℕ) → at + length bs ≤ length old → length (stood old at bs) ≡ length old
 length_stood old at bs h =
     let t : length (take at old) ≡ at = length-take-le at old (omega arith) in
     omega (arith, t, length-append (take at old) (bs ++ drop (at + length bs) old), length-append bs (drop (at + length bs) old), length-drop (at + length bs) old)

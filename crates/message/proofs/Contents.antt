@@ -132,7 +132,7 @@ next_of (b ∷ bs) h = refl
 tagged_some : {n : ℕ} {Body : List ℕ → Type 0} (bs : List ℕ) → Tagged n Body bs → 0 < length bs
 tagged_some bs (t, b, e, h, body) = omega (arith, ap length e, length-append t b, ap length h.0.is, length-append h.0.front (h.0.last ∷ []))
 
-spelt_some : (m : Said) (bs : List ℕ) → MessageIs m bs → 0 < length bs
+pub spelt_some : (m : Said) (bs : List ℕ) → MessageIs m bs → 0 < length bs
 spelt_some (step1 part) bs (step1_is h) = tagged_some bs h
 spelt_some (step2 part) bs (step2_is h) = tagged_some bs h
 spelt_some (update part) bs (update_is h) = tagged_some bs h
@@ -145,6 +145,13 @@ spelt_some (custom tag part) bs (custom_is f h) = tagged_some bs h
 pub next_shorter : (s rest : List ℕ) (m : Said) → next s ≡ whole m rest → length rest < length s
 next_shorter s rest m e =
     let a = exact_message.taken_is_spelt s m rest (taken s rest m e).reads in
+    let k = spelt_some m a.0 a.2 in
+    omega (arith, ap length a.1, length-append a.0 rest)
+
+-- a message takes some bytes, whatever its buffer holds
+pub message_shorter : (s rest : List ℕ) (m : Said) → message s ≡ Ok (m, rest) → length rest < length s
+message_shorter s rest m e =
+    let a = exact_message.taken_is_spelt s m rest e in
     let k = spelt_some m a.0 a.2 in
     omega (arith, ap length a.1, length-append a.0 rest)
 

@@ -1,6 +1,6 @@
 // A presence update that has been read to its end: its entries are walked through later, and no text is judged twice.
 ghost use Rattle.std.specs.Iterator.{item_count};
-ghost use Rattle.std.specs.Prelude.{◌≡◌, ◌≤◌, length, Ok, is_ok, true};
+ghost use Rattle.std.specs.Prelude.{◌≡◌, ◌≤◌, IfOk, length, Ok, is_ok, true};
 ghost use Rattle.std.specs.Option.{option_copied};
 ghost use Rattle.encoding.specs.Entries.{entries};
 ghost use Rattle.encoding.specs.Reading.{read_as};
@@ -95,7 +95,8 @@ impl<'a> ArrivedUpdate<'a> {
     #[tactic(auto, unfolding(crate::specs::Presence::presence), using(crate::proofs::Arrivals::read_past, crate::proofs::Arrivals::fault_past))]
     // The update that the bytes begin with, read to its end; bytes after it are not looked at.
     pub fn read(s: &'a [u8]) -> Result<ArrivedUpdate<'a>, WireFault>
-        ensures { result ≡ alone (presence s.now) }
+        ensures reads { result ≡ alone (presence s.now) }
+        ensures few { IfOk result (λ es. length es ≤ 64) }
     {
         let (count, bytes) = read_count::<u64>(s)?;
         skip_entries::<PresenceEntry>(bytes, count)?;

@@ -19,7 +19,7 @@ pub struct PresenceEntry<'a> {
 }
 
 // A text that spells null is none.
-pub(crate) fn state_of(text: &[u8]) -> Option<&[u8]>
+pub fn state_of(text: &[u8]) -> Option<&[u8]>
     ensures { option_copied result ≡ state_of text.now }
 {
     if text == b"null".as_slice() {

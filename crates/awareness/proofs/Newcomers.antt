@@ -32,22 +32,22 @@ module _ (own now : ℕ) where
   length_most rows (e ∷ es) = let h = length_most (received own now rows e) es in omega (arith, length_entered client_of above rows (newcomer own now (held_of e.client rows) e))
 
   -- the table so far has the clients of before and the new ones, so many as both
-  pub record Seated (before : List Record) (all : List Entry) (here : List Record) (new : List ℕ) (es : List Entry) : Type 0 where
+  pub record CountsNew (before : List Record) (all : List Entry) (here : List Record) (new : List ℕ) (es : List Entry) : Type 0 where
     pub up : ascends client_of here ≡ true
     pub new_up : ascends id new ≡ true
     pub rest : taken own now before all ≡ taken own now here es
     pub many : length here ≡ length before + length new
     pub who : (c : ℕ) → is_some (held_of c here) ≡ (is_some (held_of c before) || is_some (held id c new))
 
-  abbrev pub Seats : List Record → List Entry → List ℕ → List Entry → Type 0
-  Seats before all new es = (here : List Record) × Seated before all here new es
+  abbrev pub NewOnes : List Record → List Entry → List ℕ → List Entry → Type 0
+  NewOnes before all new es = (here : List Record) × CountsNew before all here new es
 
   or_none : (b : Bool) → b ≡ (b || false)
   or_none true = refl
   or_none false = refl
 
-  pub seats_start : (before : List Record) (all es : List Entry) (new : List ℕ) → es ≡ all → new ≡ [] → ascends client_of before ≡ true → Seats before all new es
-  seats_start before all es new is none up = (
+  pub new_ones_start : (before : List Record) (all es : List Entry) (new : List ℕ) → es ≡ all → new ≡ [] → ascends client_of before ≡ true → NewOnes before all new es
+  new_ones_start before all es new is none up = (
     before,
     record {
       up = up;
@@ -59,7 +59,7 @@ module _ (own now : ℕ) where
   )
 
   -- an entry of a client that was held before, or that is new
-  module _ (before : List Record) (all : List Entry) (here : List Record) (new : List ℕ) (es : List Entry) (e : Entry) (others : List Entry) (s : Seated before all here new es) (is : es ≡ e ∷ others) where
+  module _ (before : List Record) (all : List Entry) (here : List Record) (new : List ℕ) (es : List Entry) (e : Entry) (others : List Entry) (s : CountsNew before all here new es) (is : es ≡ e ∷ others) where
     then : List Record
     then = received own now here e
 
@@ -83,8 +83,8 @@ module _ (own now : ℕ) where
       no z = cc
     same_or false b false h = sym (or_none b)
 
-    pub seats_known : is_some (held_of e.client before) ≡ true → Seats before all new others
-    seats_known k = (
+    pub new_ones_known : is_some (held_of e.client before) ≡ true → NewOnes before all new others
+    new_ones_known k = (
       received own now here e,
       record {
         up = ascends_received own now here e s.up;
@@ -98,8 +98,8 @@ module _ (own now : ℕ) where
     new_then : List ℕ
     new_then = entered id always new e.client
 
-    pub seats_entered : is_some (held_of e.client before) ≡ false → Seats before all (entered id always new e.client) others
-    seats_entered k =
+    pub new_ones_entered : is_some (held_of e.client before) ≡ false → NewOnes before all (entered id always new e.client) others
+    new_ones_entered k =
         let w : is_some (held_of e.client here) ≡ is_some (held id e.client new) = s.who e.client ∙ ap (λ b. b || is_some (held id e.client new)) k in (
           received own now here e,
           record {
@@ -118,8 +118,8 @@ module _ (own now : ℕ) where
         by false true q = cc
 
     -- the new client found a place
-    pub seats_put : (r : Result Outcome TableFull) (o : Outcome) (put : List ℕ) → is_some (held_of e.client before) ≡ false → r ≡ outcome id always 64 new e.client → put ≡ updated id 64 new e.client → r ≡ Ok o → Seats before all put others
-    seats_put r o put k a u is_ok_so = subst (λ l. Seats before all l others) (sym (u ∙ cond-false (full id 64 new e.client) new (entered id always new e.client) (not_full (held id e.client new) (leb 64 (length new)) (sym a ∙ is_ok_so)))) (seats_entered k) where
+    pub new_ones_put : (r : Result Outcome TableFull) (o : Outcome) (put : List ℕ) → is_some (held_of e.client before) ≡ false → r ≡ outcome id always 64 new e.client → put ≡ updated id 64 new e.client → r ≡ Ok o → NewOnes before all put others
+    new_ones_put r o put k a u is_ok_so = subst (λ l. NewOnes before all l others) (sym (u ∙ cond-false (full id 64 new e.client) new (entered id always new e.client) (not_full (held id e.client new) (leb 64 (length new)) (sym a ∙ is_ok_so)))) (new_ones_entered k) where
       not_full : (h : Option ℕ) (b : Bool) → answer always b h e.client ≡ Ok o → cond (is_some h) false b ≡ false
       not_full None true q = absurd (never q) where
         never : ◌≡◌ {A = Result Outcome TableFull} (Err (record {})) (Ok o) → ⊥
@@ -128,8 +128,8 @@ module _ (own now : ℕ) where
       not_full (Some x) b q = refl
 
     -- or there was none for it
-    pub seats_none : (r : Result Outcome TableFull) (f : TableFull) → is_some (held_of e.client before) ≡ false → r ≡ outcome id always 64 new e.client → r ≡ Err f → Err TooManyClients ≡ room_for (taken own now before all)
-    seats_none r f k a is_err_so =
+    pub new_ones_none : (r : Result Outcome TableFull) (f : TableFull) → is_some (held_of e.client before) ≡ false → r ≡ outcome id always 64 new e.client → r ≡ Err f → Err TooManyClients ≡ room_for (taken own now before all)
+    new_ones_none r f k a is_err_so =
         let q = is_full (held id e.client new) refl (leb 64 (length new)) refl (sym a ∙ is_err_so) in
         let w : is_some (held_of e.client here) ≡ false = s.who e.client ∙ ap (λ b. b || is_some (held id e.client new)) k ∙ q.0 in
         let l = long_then ∙ cond-false (is_some (held_of e.client here)) (length here) (length here + 1) w in
@@ -146,8 +146,8 @@ module _ (own now : ℕ) where
           never z = cc
 
   -- at the end
-  pub seats_fit : (before : List Record) (all : List Entry) (new : List ℕ) (es : List Entry) → Seats before all new es → es ≡ [] → length before + length new ≤ 64 → Ok tt ≡ room_for (taken own now before all)
-  seats_fit before all new es s is l = room_passes (taken own now before all) (omega (arith, ap length (s.1.rest ∙ ap (taken own now s.0) is), s.1.many))
+  pub new_ones_fit : (before : List Record) (all : List Entry) (new : List ℕ) (es : List Entry) → NewOnes before all new es → es ≡ [] → length before + length new ≤ 64 → Ok tt ≡ room_for (taken own now before all)
+  new_ones_fit before all new es s is l = room_passes (taken own now before all) (omega (arith, ap length (s.1.rest ∙ ap (taken own now s.0) is), s.1.many))
 
-  pub seats_fail : (before : List Record) (all : List Entry) (new : List ℕ) (es : List Entry) → Seats before all new es → es ≡ [] → 64 < length before + length new → Err TooManyClients ≡ room_for (taken own now before all)
-  seats_fail before all new es s is l = room_fails (taken own now before all) (omega (arith, ap length (s.1.rest ∙ ap (taken own now s.0) is), s.1.many))
+  pub new_ones_fail : (before : List Record) (all : List Entry) (new : List ℕ) (es : List Entry) → NewOnes before all new es → es ≡ [] → 64 < length before + length new → Err TooManyClients ≡ room_for (taken own now before all)
+  new_ones_fail before all new es s is l = room_fails (taken own now before all) (omega (arith, ap length (s.1.rest ∙ ap (taken own now s.0) is), s.1.many))

@@ -1,0 +1,259 @@
+//! Bytes of messages, vectors and updates, around the limits of every field.
+use crate::random::Random;
+use beside_rust::encoding::write::Write;
+
+/// How far a generator goes: everything that bytes can be, or what a hub's script is mostly made of.
+#[derive(Clone, Copy, PartialEq, Eq)]
+pub enum Width {
+    Wide,
+    Narrow,
+}
+
+const NARROW_CLIENTS: [u64; 5] = [1, 2, 5, 7, 9];
+const CLIENTS: [u64; 13] = [0, 1, 2, 5, 7, 9, 63, 64, 127, 128, 300, 1 << 40, (1 << 53) - 1];
+const PAST_CLIENTS: [u64; 3] = [1 << 53, (1 << 53) + 7, u64::MAX];
+const NARROW_CLOCKS: [u64; 6] = [0, 1, 2, 3, 4, 5];
+const CLOCKS: [u64; 12] = [0, 1, 2, 3, 5, 127, 128, 300, 16384, 65536, 0xffff_fffe, 0xffff_ffff];
+const NOT_TEXTS: [&[u8]; 9] = [
+    b"\xff",
+    b"\xc0\x80",
+    b"\xed\xa0\x80",
+    b"\xf4\x90\x80\x80",
+    b"\xe2\x82",
+    b"a\x80",
+    b"\xe0\x9f\xbf",
+    b"\xf0\x8f\xbf\xbf",
+    b"\xc1\xbf",
+];
+const TEXTS: [&[u8]; 14] = [
+    b"",
+    b"a",
+    b"b",
+    b"\"in\"",
+    b"null",
+    b"nul",
+    b"nulll",
+    b"Null",
+    b"{\"file\":1}",
+    b"\xc2\x80",
+    b"\xed\x9f\xbf",
+    b"\xee\x80\x80",
+    b"\xf0\x90\x80\x80",
+    b"\xf4\x8f\xbf\xbf",
+];
+
+/// A number, mostly in its shortest spelling, now and then in a longer one or in one that never ends.
+pub fn number(r: &mut Random, value: u64) -> Vec<u8> {
+    let mut bytes = Vec::new();
+    bytes.write_var(value);
+    if r.once_in(12) && bytes.len() < 10 {
+        let longer = bytes.len() + 1 + r.below(10 - bytes.len());
+        *bytes.last_mut().expect("a number has a byte") |= 0x80;
+        bytes.resize(longer, 0x80);
+        *bytes.last_mut().expect("a number has a byte") = if r.once_in(8) { 0x80 } else { 0 };
+    }
+    bytes
+}
+
+pub fn client(r: &mut Random, width: Width) -> u64 {
+    match width {
+        Width::Narrow => *r.pick(&NARROW_CLIENTS),
+        Width::Wide if r.once_in(60) => *r.pick(&PAST_CLIENTS),
+        Width::Wide => *r.pick(&CLIENTS),
+    }
+}
+
+pub fn clock(r: &mut Random, width: Width) -> u64 {
+    match width {
+        Width::Narrow => *r.pick(&NARROW_CLOCKS),
+        Width::Wide if r.once_in(40) => 1 << 32,
+        Width::Wide => *r.pick(&CLOCKS),
+    }
+}
+
+/// A text, now and then one that is none or is too long.
+pub fn text(r: &mut Random, width: Width) -> Vec<u8> {
+    match r.below(if width == Width::Wide { 60 } else { 1000 }) {
+        0 => vec![b'a'; 257],
+        1 => vec![b'a'; 256],
+        2 => [&[b'a'; 254][..], b"\xc3\xa9"].concat(),
+        3 => [&[b'a'; 256][..], b"\xff"].concat(),
+        4 | 5 => r.pick(&NOT_TEXTS).to_vec(),
+        _ => r.pick(&TEXTS).to_vec(),
+    }
+}
+
+/// How many entries: few, now and then as many as there may be and one more.
+fn len(r: &mut Random) -> usize {
+    match r.below(100) {
+        0 => 64,
+        1 => 65,
+        2 => 20,
+        _ => r.below(4),
+    }
+}
+
+/// A count that is declared: mostly the true one.
+fn declared(r: &mut Random, true_count: usize) -> u64 {
+    match r.below(60) {
+        0 => true_count as u64 + 1,
+        1 => (true_count as u64).saturating_sub(1),
+        2 => *r.pick(&[64, 65, 1 << 20, 0xffff_ffff, 1 << 32, u64::MAX]),
+        _ => true_count as u64,
+    }
+}
+
+/// Bytes that follow where none should: mostly none.
+fn left_over(r: &mut Random) -> &'static [u8] {
+    if r.once_in(20) {
+        b"\x00"
+    } else {
+        b""
+    }
+}
+
+/// A count and so many entries; where there are many, each is of a client of its own, and mostly too in what scripts are made of.
+fn counted(r: &mut Random, width: Width, entry: impl Fn(&mut Random, u64) -> Vec<u8>) -> Vec<u8> {
+    let len = len(r);
+    let count = declared(r, len);
+    let mut bytes = number(r, count);
+    let first = r.below(NARROW_CLIENTS.len());
+    let repeats = width == Width::Wide || r.once_in(200);
+    for i in 0..len {
+        let client = match len {
+            5.. => i as u64,
+            _ if repeats => client(r, width),
+            _ => NARROW_CLIENTS[(first + i) % NARROW_CLIENTS.len()],
+        };
+        let spelt = number(r, client);
+        bytes.extend(spelt);
+        bytes.extend(entry(r, client));
+    }
+    bytes.extend(left_over(r));
+    bytes
+}
+
+pub fn vector(r: &mut Random, width: Width) -> Vec<u8> {
+    counted(r, width, |r, _| {
+        let clock = clock(r, width);
+        number(r, clock)
+    })
+}
+
+pub fn presence(r: &mut Random, width: Width) -> Vec<u8> {
+    counted(r, width, |r, _| {
+        let clock = clock(r, width);
+        let text = text(r, width);
+        let mut bytes = number(r, clock);
+        bytes.extend(number(r, text.len() as u64));
+        bytes.extend(text);
+        bytes
+    })
+}
+
+pub fn counts(r: &mut Random, width: Width) -> Vec<u8> {
+    vector(r, width)
+}
+
+pub fn slots(r: &mut Random, width: Width) -> Vec<u8> {
+    counted(r, width, |r, _| {
+        let clock = if r.once_in(30) { 0 } else { clock(r, width).max(1) };
+        let slot = match r.below(25) {
+            0 => vec![0xff; 33],
+            1 => vec![0xff; 32],
+            _ => r.pick(&[&b""[..], b"a", b"ab", b"b", b"\x00", b"\xff", b"a\x00"]).to_vec(),
+        };
+        let mut bytes = number(r, clock);
+        bytes.extend(number(r, slot.len() as u64));
+        bytes.extend(slot);
+        bytes
+    })
+}
+
+/// A buffer, now and then with a length that is not its own.
+fn buffer(r: &mut Random, bytes: &[u8]) -> Vec<u8> {
+    let len = if r.once_in(60) { bytes.len() as u64 + 1 } else { bytes.len() as u64 };
+    let mut out = number(r, len);
+    out.extend_from_slice(bytes);
+    out
+}
+
+/// An update of either board, or bytes that are none.
+pub fn update(r: &mut Random, width: Width) -> Vec<u8> {
+    match r.below(10) {
+        0 => (0..r.below(6)).map(|_| r.byte()).collect(),
+        1..=4 => slots(r, width),
+        _ => counts(r, width),
+    }
+}
+
+fn sync(r: &mut Random, width: Width) -> Vec<u8> {
+    let kind = match r.below(30) {
+        0 => *r.pick(&[3, 4, 255, 256]),
+        _ => r.below(3) as u64,
+    };
+    let held = if kind == 0 { vector(r, width) } else { update(r, width) };
+    let mut bytes = number(r, kind);
+    bytes.extend(buffer(r, &held));
+    bytes
+}
+
+fn auth(r: &mut Random, width: Width) -> Vec<u8> {
+    let flag = *r.pick(&[0, 0, 1, 2, 127, 128, 255, 256]);
+    let mut bytes = number(r, flag);
+    if flag == 0 {
+        let reason = text(r, width);
+        bytes.extend(buffer(r, &reason));
+    }
+    bytes
+}
+
+/// One message, of any kind.
+pub fn message(r: &mut Random, width: Width) -> Vec<u8> {
+    let tag = match r.below(12) {
+        0..=3 => 0,
+        4..=7 => 1,
+        8 => 2,
+        9 => 3,
+        _ => *r.pick(&[4, 15, 16, 31, 32, 127, 128, 200, 255, 256]),
+    };
+    let mut bytes = number(r, tag);
+    bytes.extend(match tag {
+        0 => sync(r, width),
+        1 => {
+            let held = presence(r, width);
+            buffer(r, &held)
+        }
+        2 => auth(r, width),
+        3 => Vec::new(),
+        _ => {
+            let data: Vec<u8> = (0..r.below(4)).map(|_| r.byte()).collect();
+            buffer(r, &data)
+        }
+    });
+    bytes
+}
+
+/// One to three messages.
+pub fn messages(r: &mut Random, width: Width) -> Vec<u8> {
+    (0..1 + r.below(3)).flat_map(|_| message(r, width)).collect()
+}
+
+/// Bytes with a place or two changed, left out, doubled or cut off.
+pub fn damaged(r: &mut Random, mut bytes: Vec<u8>) -> Vec<u8> {
+    for _ in 0..1 + r.below(2) {
+        if bytes.is_empty() {
+            return bytes;
+        }
+        let at = r.below(bytes.len());
+        match r.below(6) {
+            0 => bytes.truncate(at),
+            1 => drop(bytes.remove(at)),
+            2 => bytes.insert(at, bytes[at]),
+            3 => bytes[at] ^= 1 << r.below(8),
+            4 => bytes[at] = *r.pick(&[0x00, 0x01, 0x7f, 0x80, 0xff]),
+            _ => bytes[at] = bytes[at].wrapping_add(1),
+        }
+    }
+    bytes
+}
