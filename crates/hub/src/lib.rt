@@ -1,6 +1,8 @@
 // A hub: messages handled, one after another.
 #![tactic(auto)]
 
-pub mod presence;
 pub mod hub;
 pub mod live;
+pub mod presence;
+#[cfg(test)]
+mod tests;
