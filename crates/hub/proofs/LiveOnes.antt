@@ -5,7 +5,7 @@ use Rattle.std.proofs.lemmas.List.{length-map}
 use Rattle.std.proofs.lemmas.List.Elements.{All-filter, All-map}
 use Rattle.encoding.specs.Writing.{counted_out, row_out, shortest}
 use Rattle.state_vector.specs.Tables.{all_above, ascends}
-use Rattle.joined_tables.proofs.Choosing.{ascends_kept, few_kept}
+use Rattle.state_vector.proofs.Kept.{ascends_kept, few_kept}
 use Rattle.message.specs.Presence.{Entry}
 use Rattle.message.specs.Writing.{Readable, presence_entry_out, presence_out}
 use Rattle.awareness.specs.Record.{Record, client_of, entry_of, live, Writable}

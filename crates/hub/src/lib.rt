@@ -6,3 +6,5 @@ pub mod live;
 pub mod presence;
 pub mod sync;
 pub mod writing;
+#[cfg(test)]
+mod tests;
