@@ -5,6 +5,6 @@ pub mod hub;
 pub mod live;
 pub mod presence;
 pub mod sync;
-pub mod writing;
 #[cfg(test)]
 mod tests;
+pub mod writing;
