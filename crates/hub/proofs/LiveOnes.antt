@@ -24,10 +24,11 @@ ascends_map (r ∷ rows) = ap (λ b. b && ascends client (map entry_of rows)) (a
 -- what is live among records that ascend and can be written can be written
 pub live_sound : (rows : List Record) → length rows ≤ 64 → ascends client_of rows ≡ true → All Writable rows → (length (map entry_of (filter live rows)) ≤ 64) × (ascends client (map entry_of (filter live rows)) ≡ true) × All Readable (map entry_of (filter live rows))
 live_sound rows l up w =
-    let few = few_kept client_of live rows in
-    (omega (arith, length-map (filter live rows) entry_of, few, l),
-        ascends_map (filter live rows) ∙ ascends_kept client_of live rows up,
-        All-map Readable entry_of (filter live rows) (All-filter live Writable rows w))
+    let few = few_kept client_of live rows in (
+      omega (arith, length-map (filter live rows) entry_of, few, l),
+      ascends_map (filter live rows) ∙ ascends_kept client_of live rows up,
+      All-map Readable entry_of (filter live rows) (All-filter live Writable rows w),
+    )
 
 rows_out : (rows : List Record) → row_out (λ r. presence_entry_out (entry_of r)) rows ≡ row_out presence_entry_out (map entry_of rows)
 rows_out [] = refl

@@ -6,12 +6,14 @@ ghost use Rattle.message.specs.Message.{Said, means};
 ghost use Rattle.message.specs.Presence.{presence};
 ghost use Rattle.awareness.specs.Calls.{applied, ReadIf};
 ghost use Rattle.calls.specs.Handling.{asked, queried, settled, handle, one};
+ghost use Rattle.hub.specs.Lawful.{Keeps, HandleTold};
 ghost use Rattle.hub.specs.Steps.{fresh, hub_of, Replied, Stepped, Handles};
 
 use crate::live::LiveRecords;
 use awareness::awareness::Awareness;
-use awareness::clock::Clock;
+use awareness::clock::{Clock, SetClock};
 use awareness::observer::Nobody;
+use awareness::record::Record;
 use calls::answer::{Handled, Refusal};
 use calls::fault::Fault;
 use calls::policy::Policy;
@@ -46,6 +48,48 @@ impl<H: DocumentHost, C: Clock + Drop, P: Policy + Drop> Hub<H, C, P> {
             clock,
             policy,
         })
+    }
+}
+
+impl<H, C, P> Hub<H, C, P> {
+    // The own client id.
+    pub fn client_id(&self) -> u64
+        ensures { result ≡ self.now.presence.own }
+    {
+        self.presence.client_id()
+    }
+
+    // The records, ascending by client.
+    pub fn records(&self) -> &[Record]
+        ensures { result.now ≡ self.now.presence.rows }
+    {
+        self.presence.records()
+    }
+
+    // The host of the document.
+    pub fn host(&self) -> &H
+        ensures { result.now ≡ self.now.host }
+    {
+        &self.host
+    }
+
+    // The policy.
+    pub fn policy(&self) -> &P
+        ensures { result.now ≡ self.now.policy }
+    {
+        &self.policy
+    }
+}
+
+impl<H, P> Hub<H, SetClock, P> {
+    // Puts in the next reading of the clock.
+    pub fn set_clock(&mut self, reading: u64)
+        ensures clock { self.new.clock.reading ≡ reading }
+        ensures presence { self.new.presence ≡ self.old.presence }
+        ensures host { self.new.host ≡ self.old.host }
+        ensures policy { self.new.policy ≡ self.old.policy }
+    {
+        self.clock.reading = reading;
     }
 }
 
@@ -114,6 +158,15 @@ impl<H: DocumentHost, C: Clock, P: Policy> Hub<H, C, P> {
 
     // Handles messages up to the end of reading or a refusal; those before a refusal keep their effects and replies.
     pub fn handle(&mut self, bytes: &[u8], replies: &mut [u8]) -> Result<Handled, Refusal>
+        ensures law { Keeps H.kind H.LIMIT (P.Policy.accepts self.old.policy) (P.Policy.accepts self.new.policy) (HandleTold C.Clock.next C.Clock.leads bytes.now replies.old replies.new self.old.clock self.new.clock result) (hub_of H.kind self.old.presence (H.document self.old.host)) (hub_of H.kind self.new.presence (H.document self.new.host)) }
+        ensures handles { Handles C.Clock.next C.Clock.leads H.kind H.LIMIT (P.Policy.accepts self.old.policy) bytes.now (record { hub = hub_of H.kind self.old.presence (H.document self.old.host); clock = self.old.clock; buffer = replies.old }) (record { hub = hub_of H.kind self.new.presence (H.document self.new.host); clock = self.new.clock; buffer = replies.new }) result }
+        ensures policy { (m : Said) → P.Policy.accepts self.new.policy m ≡ P.Policy.accepts self.old.policy m }
+    {
+        self.handle_each(bytes, replies)
+    }
+
+    // The messages one after another.
+    fn handle_each(&mut self, bytes: &[u8], replies: &mut [u8]) -> Result<Handled, Refusal>
         ensures handles { Handles C.Clock.next C.Clock.leads H.kind H.LIMIT (P.Policy.accepts self.old.policy) bytes.now (record { hub = hub_of H.kind self.old.presence (H.document self.old.host); clock = self.old.clock; buffer = replies.old }) (record { hub = hub_of H.kind self.new.presence (H.document self.new.host); clock = self.new.clock; buffer = replies.new }) result }
         ensures policy { (m : Said) → P.Policy.accepts self.new.policy m ≡ P.Policy.accepts self.old.policy m }
     {

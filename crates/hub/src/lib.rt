@@ -4,5 +4,7 @@
 pub mod hub;
 pub mod live;
 pub mod presence;
+pub mod sync;
 #[cfg(test)]
 mod tests;
+pub mod writing;
