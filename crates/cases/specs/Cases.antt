@@ -1,11 +1,14 @@
 -- Worked cases, as a table, over the definitions on which contracts rest.
 --   Case       a field that is read, or a call that is made
 --   live, null   a record of a client that shows a text, or none, as of a time
---   board_hub, slot_hub   a hub of client 1 over a count board, or a slot board
+--   count_hub, slot_hub   a hub of client 1 over a count board, or a slot board
 --   Makes      what a call tells and leaves
 --   Holds      a case holds
+--   quoted_in   a text
+--   handles, did   a handle, and what it tells where it meets no fault
+--   updates_1, tells_nothing   what an apply tells
 --   cases      the table
---   CasesHold   each case of it holds
+--   AllHold, CasesHold   each case of it holds
 use Rattle.std.specs.Prelude.{◌≡◌, ℕ, ◌-◌, ◌^◌, true, List, [], ◌∷◌, Some, None, Ok, Err}
 use Rattle.encoding.specs.declared.fault.WireFault.TheVariants.{InvalidVarInt, EndOfBuffer}
 use Rattle.encoding.specs.Fields.{client_id_in}

@@ -1,5 +1,6 @@
 pub mod LiveOnes
 pub mod Replies
+pub mod Making
 pub mod Walks
 pub mod Onemore
 pub mod Walked

@@ -10,8 +10,9 @@ ghost use Rattle.hub.specs.Steps.{fresh, hub_of, Replied, Stepped, Handles};
 
 use crate::live::LiveRecords;
 use awareness::awareness::Awareness;
-use awareness::clock::Clock;
+use awareness::clock::{Clock, SetClock};
 use awareness::observer::Nobody;
+use awareness::record::Record;
 use calls::answer::{Handled, Refusal};
 use calls::fault::Fault;
 use calls::policy::Policy;
@@ -46,6 +47,48 @@ impl<H: DocumentHost, C: Clock + Drop, P: Policy + Drop> Hub<H, C, P> {
             clock,
             policy,
         })
+    }
+}
+
+impl<H, C, P> Hub<H, C, P> {
+    // The own client id.
+    pub fn client_id(&self) -> u64
+        ensures { result ≡ self.now.presence.own }
+    {
+        self.presence.client_id()
+    }
+
+    // The records, ascending by client.
+    pub fn records(&self) -> &[Record]
+        ensures { result.now ≡ self.now.presence.rows }
+    {
+        self.presence.records()
+    }
+
+    // The host of the document.
+    pub fn host(&self) -> &H
+        ensures { result.now ≡ self.now.host }
+    {
+        &self.host
+    }
+
+    // The policy.
+    pub fn policy(&self) -> &P
+        ensures { result.now ≡ self.now.policy }
+    {
+        &self.policy
+    }
+}
+
+impl<H, P> Hub<H, SetClock, P> {
+    // Puts in the next reading of the clock.
+    pub fn set_clock(&mut self, reading: u64)
+        ensures clock { self.new.clock.reading ≡ reading }
+        ensures presence { self.new.presence ≡ self.old.presence }
+        ensures host { self.new.host ≡ self.old.host }
+        ensures policy { self.new.policy ≡ self.old.policy }
+    {
+        self.clock.reading = reading;
     }
 }
 

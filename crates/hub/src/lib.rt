@@ -2,5 +2,6 @@
 #![tactic(auto)]
 
 pub mod presence;
+pub mod writing;
 pub mod hub;
 pub mod live;

@@ -12,7 +12,8 @@ use Rattle.law.specs.Events.{Event, events, Account, AtLeast, account, document_
 use Rattle.law.specs.Shown.{standing, Touches, reading_of, Last, TimeOf, Holds}
 use Rattle.law.specs.Answers.{Answered, Takes}
 use Rattle.law.specs.Exchange.{AtEach}
-use Rattle.law.specs.Law.{Law, EveryRunKeepsTheLaw, OneCallMoreKeepsTheLaw, TheLawLeavesNothingOpen}
+use Rattle.law.specs.Law.{Law}
+use Rattle.law.specs.Promises.{EveryRunKeepsTheLaw, OneCallMoreKeepsTheLaw, TheLawLeavesNothingOpen, WhatHappenedIsHeld, SameVerdictsSameLaw}
 use Rattle.law.proofs.Accounts.{clock_led, null_passed, text_stays}
 use Rattle.law.proofs.Calls.{CallSo, call_so}
 use Rattle.law.proofs.Exchanges.{exchanges}
@@ -172,3 +173,9 @@ nothing_is_open k limit lawful accepts id history one other p q =
     ap (λ i. record { own = i; rows = one.rows; document = one.document }) owns
     ∙ ap (λ r. record { own = other.own; rows = r; document = one.document }) rows
     ∙ ap (λ d. record { own = other.own; rows = other.rows; document = d }) documents
+
+pub what_happened_is_held : (k : Kind) (limit : ℕ) → Lawful k limit → WhatHappenedIsHeld k limit
+what_happened_is_held k limit lawful accepts id history hub law c = (kept_from k limit lawful accepts id history hub law).sound.holds c
+
+pub same_verdicts_same_law : (k : Kind) (limit : ℕ) → SameVerdictsSameLaw k limit
+same_verdicts_same_law k limit accepts also id history hub same law = subst (λ f. Law k limit f id history hub) (λ i m. sym (same m) i) law

@@ -13,3 +13,6 @@ pub mod Handles
 pub mod Calls
 pub mod Exchanges
 pub mod Keeping
+pub mod Texts
+pub mod Making
+pub mod Steps

@@ -9,13 +9,17 @@
 --   RequestAnswered, UpdateAnswered, PresenceAnswered, PolicyAnswered, QueryAnswered   the verdicts on messages, each with its reply
 --   MessageAnswered   the verdict on a message with its reply
 --   Done, said_of, replies_of   a message that was done, with its reply
---   Ends       where and why a handle ends
+--   length_told   the length of the replies that is told
+--   EndsAt, Ends   where and why a handle ends
 --   HandleAnswered   what a handle tells, message by message
 --   Did, Tells   a list has the clients of whom one of the entries, met in turn, did what it tells
 --   ListsTell   the four lists of an apply
 --   ApplyAnswered, SetAnswered, RemoveAnswered, WriteAnswered, ShowAnswered, ListAnswered   what the other calls tell
---   Answered   what a call tells
---   Takes      how many readings of the clock a call takes
+--   Ids        ids that can be read
+--   vector_written   the vector of the document, as a step 1
+--   CallAnswered, Answered   what a call tells
+--   presences   how many messages are presence updates
+--   RemovalTakes, CallTakes, Takes   how many readings of the clock a call takes
 use Rattle.std.specs.Prelude.{◌≡◌, ◌≢◌, ◌⊎◌, ◌↔◌, ℕ, suc, ◌-◌, ◌^◌, ◌<◌, ◌≤◌, Bool, true, false, cond, List, [], ◌∷◌, ◌++◌, map, take, length, Contains, Some, None, Ok, Err, Option, Result}
 use Rattle.encoding.specs.declared.fault.WireFault.{WireFault}
 use Rattle.encoding.specs.declared.write.WriteFault.{WriteFault}

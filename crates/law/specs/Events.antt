@@ -7,15 +7,17 @@
 --   events_in   what messages bring that were accepted, one after another
 --   left_after   the readings that are left after them
 --   accepted   a call met no fault
---   done_count   how many messages a handle did: all before its fault, if it met one
---   events_of   what a call brings that was told
+--   count_in, done_count   how many messages a handle did: all before its fault, if it met one
+--   call_events, events_of   what a call brings that was told
 --   events     what a history brings
---   arrives, arrived    the entries that reached a hub; a client that was made null counts as a null above all that had arrived for it
+--   arrives, arrived_after, arrived    the entries that reached a hub; a client that was made null counts as a null above all that had arrived for it
 --   highest    the highest clock that arrived for a client
 --   Account    a clock and a state
---   account    what the own client's events come to, one after another
+--   meets, hears, puts   an account after an own entry, and after a state was put there
+--   account_next, account_after, account    what the own client's events come to, one after another
 --   Live, AtLeast   the account shows a text, or is at a clock or above
---   updates    the documents that updates are read as
+--   read_as, update_in, updates    the documents that updates are read as
+--   all_joined   a document joined with others
 --   document_of   the empty document, joined with every update
 use Rattle.std.specs.Prelude.{ℕ, ◌+◌, ◌≤◌, ◌≢◌, Bool, true, false, cond, List, [], ◌∷◌, ◌++◌, map, take, max, Some, None, Ok, Err, Option, Result, ◌==◌, nat_le, nat_lt}
 use Rattle.encoding.specs.declared.fault.WireFault.{WireFault}

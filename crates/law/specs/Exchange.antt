@@ -1,4 +1,5 @@
 -- An exchange between two hubs with one kind of document, by the bytes that cross the wire.
+--   AtEach     what was told is so at each place of a history
 --   Asks       a call wrote a step 1, which holds this buffer
 --   Another    another hub of the kind: its host has a limit of its own, it was answered by the rules, and was never past its limit
 --   Replied    it was handed that step 1, among any messages, and replied to it with a step 2

@@ -1,10 +1,12 @@
--- THE LAW OF A HUB: what it answers and what it holds, said of the calls that it was given and of what they told.
+-- The law of a hub: what it answers and what it holds, said of the calls that it was given and of what they told.
+-- A history is what was told, call by call (Words). What happened is read off it: the entries that came, the states that were set, the clients that were made null, and the document updates (Events).
 --   answered   every call was answered as the rules say, by what happened before it
 --   others     of each other client the hub holds exactly the newest of what arrived: nothing where nothing arrived; else the highest clock that did, null where a null arrived at that clock, and else the text that arrived first at it
 --   own        of its own client it holds the account; nothing received makes a live own text null; the own clock is as high as every clock received for it, and above each null received while a text was held
 --   times      the clock is read once for each presence update and each set that is accepted, and for the removal of one of whom nothing was held; a record has the time of what last inserted, replaced or raised it
 --   document   the document is the empty one joined with every update that was accepted, and never was past its limit
 --   exchange   where the hub wrote a step 1, another hub of the kind was handed it and replied with a step 2, and the hub is handed that, among any messages and after any calls, it accepts it exactly where the join of the two documents is within its limit, and then has that join
+-- Own, Times and Document have the sentences of three of these, and Law has all.
 use Rattle.std.specs.Prelude.{◌≡◌, ◌≢◌, ℕ, ◌+◌, ◌≤◌, Bool, true, List, [], ◌∷◌, ◌++◌, Some, None, Option}
 use Rattle.state_vector.specs.Tables.{ascends}
 use Rattle.message.specs.Message.{Said}
@@ -13,8 +15,7 @@ use Rattle.awareness.specs.Newest.{HoldsNewest}
 use Rattle.awareness.specs.Record.{Record, client_of, held_of}
 use Rattle.document.specs.Kind.{Kind}
 use Rattle.calls.specs.Handling.{Hub}
-use Rattle.law.specs.Words.{Told, History}
-use Rattle.law.specs.Model.{Runs, Made}
+use Rattle.law.specs.Words.{History}
 use Rattle.law.specs.Events.{Event, came, events, arrived, Live, AtLeast, account, document_of}
 use Rattle.law.specs.Shown.{standing, Last}
 use Rattle.law.specs.Answers.{Answered, Takes}
@@ -41,7 +42,9 @@ pub record Times (own : ℕ) (history : History) (rows : List Record) : Type 0 w
 module _ (k : Kind) (limit : ℕ) where
   -- the document
   pub record Document (own : ℕ) (history : History) (document : k.Document) : Type 0 where
+    -- every update that was accepted is joined, as the kind reads it
     pub joined : document ≡ document_of k (events own history)
+    -- and after none of them it was past the limit
     pub never_past : (before after : List Event) → events own history ≡ before ++ after → k.size (document_of k before) ≤ limit
 
   module _ (accepts : Said → Bool) where
@@ -49,21 +52,15 @@ module _ (k : Kind) (limit : ℕ) where
       pub client : hub.own ≡ id
       -- a client is held once
       pub once : ascends client_of hub.rows ≡ true
+      -- every call, after what happened before it
       pub answered : AtEach id (Answered k limit accepts id) history
+      -- of each other client, the newest that arrived
       pub others : (c : ℕ) → c ≢ id → HoldsNewest c (arrived id (events id history)) (held_of c hub.rows)
+      -- of its own, the account
       pub own : Own id (events id history) (held_of id hub.rows)
+      -- readings of the clock, and the times of records
       pub times : Times id history hub.rows
+      -- the empty document, joined with every update
       pub document : Document id history hub.document
+      -- what comes of a step 1 that it wrote
       pub exchange : Exchanges k limit id history hub.document
-
-  -- every run of calls from a fresh hub on keeps the law, whatever the policy's verdicts and the readings of the clock are
-  abbrev pub EveryRunKeepsTheLaw : Type 0
-  EveryRunKeepsTheLaw = (accepts : Said → Bool) (id : ℕ) (history : History) (hub : Hub k) → Runs k limit accepts id history hub → Law accepts id history hub
-
-  -- a hub that keeps the law after a history keeps it after one call more
-  abbrev pub OneCallMoreKeepsTheLaw : Type 0
-  OneCallMoreKeepsTheLaw = (accepts : Said → Bool) (id : ℕ) (history : History) (hub : Hub k) (t : Told) (then : Hub k) → Law accepts id history hub → Made k limit accepts hub t then → Law accepts id (history ++ t ∷ []) then
-
-  -- the law leaves nothing open: two hubs that keep it with one history hold the same
-  abbrev pub TheLawLeavesNothingOpen : Type 0
-  TheLawLeavesNothingOpen = (accepts : Said → Bool) (id : ℕ) (history : History) (one other : Hub k) → Law accepts id history one → Law accepts id history other → one ≡ other

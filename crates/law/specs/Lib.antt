@@ -5,3 +5,4 @@ pub mod Shown
 pub mod Answers
 pub mod Exchange
 pub mod Law
+pub mod Promises

@@ -1,11 +1,14 @@
 -- A hub as a function from call to call.
+--   lists_of, told_by, showed   what is told, by changes, by a verdict, and of a record
 --   Step       what a call does: its answer, the hub then, and the readings of the clock that are left
---   starting   the bytes of a start: step 1, and all live records after it
+--   looked, settled, handling, removing   a call that only looks, one that comes to records, a handle, and a removal
+--   vector_bytes, live_bytes, listing_fits   the bytes that are written
 --   perform    a call, where these are the next readings
+--   readings_if   one reading, or none
 --   Made       a call was made, and took exactly the readings that are told
 --   fresh      a hub before its first call
 --   Runs       calls, one after another, from a fresh hub on
-use Rattle.std.specs.Prelude.{◌≡◌, ℕ, Bool, ◌&&◌, is_none, List, [], ◌∷◌, ◌++◌, map, filter, Ok, Err, Option, Result, is_ok}
+use Rattle.std.specs.Prelude.{◌≡◌, ℕ, Bool, ◌&&◌, true, false, is_none, List, [], ◌∷◌, ◌++◌, map, filter, Ok, Err, Option, Result, is_ok}
 use Rattle.encoding.specs.declared.fault.WireFault.{WireFault}
 use Rattle.encoding.specs.Fields.{client_id}
 use Rattle.encoding.specs.Writing.{Row}
@@ -85,6 +88,11 @@ module _ (k : Kind) where
     perform h readings (start room) = looked h readings (wrote (fits k room (both (vector_bytes h) (live_bytes h))))
     perform h readings (show c) = looked h readings (showed (client_id c) (held_of c h.rows))
     perform h readings (list cs room) = looked h readings (listing_fits room (listing h.rows cs))
+
+    -- one reading, where one was taken
+    abbrev pub readings_if : Bool → ℕ → List ℕ
+    readings_if true n = n ∷ []
+    readings_if false n = []
 
     -- a call was made, and took exactly the readings that are told: of these and a later one, the later is left
     pub record Made (h : Hub k) (t : Told) (then : Hub k) : Type 0 where

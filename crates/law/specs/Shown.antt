@@ -3,8 +3,9 @@
 --   standing   the clock and the state of what is held
 --   Shows      the clock and the state that a hub holds of a client
 --   Touches    an event inserts, replaces or raises what is held of a client
+--   reading_of   the reading of an event
 --   Last       a time is that of the event which last did so
---   Holds      what a hub holds of a client, with its time
+--   TimeOf, Holds      what a hub holds of a client, with its time
 use Rattle.std.specs.Prelude.{◌≡◌, ◌≢◌, ℕ, List, ◌∷◌, ◌++◌, Some, None, Option}
 use Rattle.awareness.specs.Newest.{HoldsNewest, Touches as Changes}
 use Rattle.awareness.specs.Record.{Record}
