@@ -9,7 +9,7 @@ use Rattle.law.specs.Law.{Law}
 use Rattle.law.specs.Words.{Told, Call, handle, handled}
 use Rattle.law.specs.Model.{Made, Step, handling, perform}
 use Rattle.law.specs.Promises.{GoesOn, OneCallMoreKeepsTheLaw, SameVerdictsSameLaw}
-use Rattle.law.proofs.Keeping.{one_call_more_keeps_the_law, same_verdicts_same_law}
+use Rattle.law.proofs.Keeping.{one_call_more, same_verdicts_same_law}
 use Rattle.hub.specs.Lawful.{Keeps, HandleTold}
 use Rattle.hub.specs.Steps.{State, Handles}
 
@@ -20,7 +20,7 @@ module _ (k : Kind) (limit : ℕ) (lawful : Lawful k limit) (accepts also : Said
     told = t;
     tells = tells;
     made = made;
-    goes_on = λ id history law. same_verdicts_same_law k limit lawful accepts also id (history ++ t ∷ []) new same (one_call_more_keeps_the_law k limit lawful accepts id history old t new law made);
+    goes_on = λ id history law. same_verdicts_same_law k limit accepts also id (history ++ t ∷ []) new same (one_call_more k limit lawful accepts id history old t new law made);
   }
 
   module _ {C : Type 0} (next : C → ℕ) (leads : C → C → Type 0) where

@@ -6,6 +6,7 @@ ghost use Rattle.message.specs.Message.{Said, means};
 ghost use Rattle.message.specs.Presence.{presence};
 ghost use Rattle.awareness.specs.Calls.{applied, ReadIf};
 ghost use Rattle.calls.specs.Handling.{asked, queried, settled, handle, one};
+ghost use Rattle.hub.specs.Lawful.{Keeps, HandleTold};
 ghost use Rattle.hub.specs.Steps.{fresh, hub_of, Replied, Stepped, Handles};
 
 use crate::live::LiveRecords;
@@ -157,6 +158,15 @@ impl<H: DocumentHost, C: Clock, P: Policy> Hub<H, C, P> {
 
     // Handles messages up to the end of reading or a refusal; those before a refusal keep their effects and replies.
     pub fn handle(&mut self, bytes: &[u8], replies: &mut [u8]) -> Result<Handled, Refusal>
+        ensures law { Keeps H.kind H.LIMIT (P.Policy.accepts self.old.policy) (P.Policy.accepts self.new.policy) (HandleTold C.Clock.next C.Clock.leads bytes.now replies.old replies.new self.old.clock self.new.clock result) (hub_of H.kind self.old.presence (H.document self.old.host)) (hub_of H.kind self.new.presence (H.document self.new.host)) }
+        ensures handles { Handles C.Clock.next C.Clock.leads H.kind H.LIMIT (P.Policy.accepts self.old.policy) bytes.now (record { hub = hub_of H.kind self.old.presence (H.document self.old.host); clock = self.old.clock; buffer = replies.old }) (record { hub = hub_of H.kind self.new.presence (H.document self.new.host); clock = self.new.clock; buffer = replies.new }) result }
+        ensures policy { (m : Said) → P.Policy.accepts self.new.policy m ≡ P.Policy.accepts self.old.policy m }
+    {
+        self.handle_each(bytes, replies)
+    }
+
+    // The messages one after another.
+    fn handle_each(&mut self, bytes: &[u8], replies: &mut [u8]) -> Result<Handled, Refusal>
         ensures handles { Handles C.Clock.next C.Clock.leads H.kind H.LIMIT (P.Policy.accepts self.old.policy) bytes.now (record { hub = hub_of H.kind self.old.presence (H.document self.old.host); clock = self.old.clock; buffer = replies.old }) (record { hub = hub_of H.kind self.new.presence (H.document self.new.host); clock = self.new.clock; buffer = replies.new }) result }
         ensures policy { (m : Said) → P.Policy.accepts self.new.policy m ≡ P.Policy.accepts self.old.policy m }
     {

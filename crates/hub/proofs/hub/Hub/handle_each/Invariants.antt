@@ -2,7 +2,7 @@ use Rattle.std.proofs.Common.{◌≡◌, ℕ, length}
 use Rattle.message.specs.Message.{Said}
 use Rattle.hub.specs.Steps.{hub_of}
 use Rattle.hub.proofs.Walked.{Walked}
-use Rattle.hub.proofs.hub.Hub.handle.Given as goal
+use Rattle.hub.proofs.hub.Hub.handle_each.Given as goal
 
 -- what was handled so far, and what is to come; the policy's verdicts stay
 abbrev pub invariant-loop-rest : goal.invariant-loop-rest
