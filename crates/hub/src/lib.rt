@@ -2,6 +2,7 @@
 #![tactic(auto)]
 
 pub mod presence;
+pub mod sync;
 pub mod writing;
 pub mod hub;
 pub mod live;

@@ -9,20 +9,26 @@ ghost use Rattle.awareness.specs.Newest.{Live};
 ghost use Rattle.awareness.specs.Record.{held_of};
 ghost use Rattle.awareness.specs.Summaries.{enough, lengths_of, Listed};
 ghost use Rattle.calls.specs.Refusals.{asked_of, lifted, row_of, Put};
+ghost use Rattle.law.specs.Words.{Call};
+ghost use Rattle.hub.specs.Lawful.{Keeps, ToldAs, apply_answer, done_answer};
+ghost use Rattle.hub.specs.Steps.{hub_of};
 
 use crate::hub::Hub;
 use awareness::clock::Clock;
 use awareness::record::Record;
 use awareness::summary::{AwarenessUpdateSummary, ChangeLists};
 use calls::answer::Refusal;
+use calls::policy::Policy;
+use document::host::DocumentHost;
 
-impl<H, C: Clock, P> Hub<H, C, P> {
+impl<H: DocumentHost, C: Clock, P: Policy> Hub<H, C, P> {
     // Takes a presence update, and lists the clients by what it did to them; each list needs 64 places.
     pub fn apply(
         &mut self,
         update: &[u8],
         lists: &mut ChangeLists<'_>,
     ) -> Result<AwarenessUpdateSummary, Refusal>
+        ensures law { Keeps H.kind H.LIMIT (P.Policy.accepts self.old.policy) (P.Policy.accepts self.old.policy) (ToldAs C.Clock.next C.Clock.leads (Call.apply update.now (enough lists.old)) (apply_answer result lists.new) self.old.clock self.new.clock) (hub_of H.kind self.old.presence (H.document self.old.host)) (hub_of H.kind self.new.presence (H.document self.new.host)) }
         ensures answer { result ≡ lifted (result_and (apply (enough lists.old) self.old.presence.own (C.Clock.next self.old.clock) self.old.presence.rows (presence update.now)).answer (Ok (lengths_of (apply (enough lists.old) self.old.presence.own (C.Clock.next self.old.clock) self.old.presence.rows (presence update.now)).changes))) }
         ensures rows { self.new.presence.rows ≡ (apply (enough lists.old) self.old.presence.own (C.Clock.next self.old.clock) self.old.presence.rows (presence update.now)).rows }
         ensures own { self.new.presence.own ≡ self.old.presence.own }
@@ -39,6 +45,7 @@ impl<H, C: Clock, P> Hub<H, C, P> {
 
     // Sets the own state: a text, which is null where it spells null.
     pub fn set(&mut self, text: &[u8]) -> Result<(), Refusal>
+        ensures law { Keeps H.kind H.LIMIT (P.Policy.accepts self.old.policy) (P.Policy.accepts self.old.policy) (ToldAs C.Clock.next C.Clock.leads (Call.set text.now) (done_answer result) self.old.clock self.new.clock) (hub_of H.kind self.old.presence (H.document self.old.host)) (hub_of H.kind self.new.presence (H.document self.new.host)) }
         ensures answer { result ≡ lifted (set self.old.presence.own (C.Clock.next self.old.clock) self.old.presence.rows text.now).answer }
         ensures rows { self.new.presence.rows ≡ (set self.old.presence.own (C.Clock.next self.old.clock) self.old.presence.rows text.now).rows }
         ensures own { self.new.presence.own ≡ self.old.presence.own }
@@ -52,6 +59,7 @@ impl<H, C: Clock, P> Hub<H, C, P> {
 
     // Makes a client null, held or not.
     pub fn remove(&mut self, client: u64) -> Result<(), Refusal>
+        ensures law { Keeps H.kind H.LIMIT (P.Policy.accepts self.old.policy) (P.Policy.accepts self.old.policy) (ToldAs C.Clock.next C.Clock.leads (Call.remove client) (done_answer result) self.old.clock self.new.clock) (hub_of H.kind self.old.presence (H.document self.old.host)) (hub_of H.kind self.new.presence (H.document self.new.host)) }
         ensures answer { result ≡ lifted (remove client (C.Clock.next self.old.clock) self.old.presence.rows).answer }
         ensures rows { self.new.presence.rows ≡ (remove client (C.Clock.next self.old.clock) self.old.presence.rows).rows }
         ensures own { self.new.presence.own ≡ self.old.presence.own }
@@ -65,6 +73,7 @@ impl<H, C: Clock, P> Hub<H, C, P> {
 
     // Makes the own client null.
     pub fn clean(&mut self) -> Result<(), Refusal>
+        ensures law { Keeps H.kind H.LIMIT (P.Policy.accepts self.old.policy) (P.Policy.accepts self.old.policy) (ToldAs C.Clock.next C.Clock.leads (Call.clean) (done_answer result) self.old.clock self.new.clock) (hub_of H.kind self.old.presence (H.document self.old.host)) (hub_of H.kind self.new.presence (H.document self.new.host)) }
         ensures answer { result ≡ lifted (remove self.old.presence.own (C.Clock.next self.old.clock) self.old.presence.rows).answer }
         ensures rows { self.new.presence.rows ≡ (remove self.old.presence.own (C.Clock.next self.old.clock) self.old.presence.rows).rows }
         ensures own { self.new.presence.own ≡ self.old.presence.own }
