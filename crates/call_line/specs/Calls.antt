@@ -117,15 +117,15 @@ tagged rest = tag_said (numbered (first_word rest)) (after_word rest)
 -- a message by the word for its kind
 abbrev pub kinded : List ℕ → List ℕ → Result Told LineFault
 kinded kind rest =
-  if bytes_eq kind (codes "step1") then Ok (step1 rest)
-  else if bytes_eq kind (codes "step2") then Ok (step2 rest)
-  else if bytes_eq kind (codes "update") then Ok (update rest)
-  else if bytes_eq kind (codes "awareness") then Ok (awareness rest)
-  else if bytes_eq kind (codes "denied") then Ok (denied rest)
-  else if bytes_eq kind (codes "granted") then alone granted rest
-  else if bytes_eq kind (codes "query") then alone query rest
-  else if bytes_eq kind (codes "custom") then tagged rest
-  else Err UnknownWord
+    if bytes_eq kind (codes "step1") then Ok (step1 rest)
+    else if bytes_eq kind (codes "step2") then Ok (step2 rest)
+    else if bytes_eq kind (codes "update") then Ok (update rest)
+    else if bytes_eq kind (codes "awareness") then Ok (awareness rest)
+    else if bytes_eq kind (codes "denied") then Ok (denied rest)
+    else if bytes_eq kind (codes "granted") then alone granted rest
+    else if bytes_eq kind (codes "query") then alone query rest
+    else if bytes_eq kind (codes "custom") then tagged rest
+    else Err UnknownWord
 
 -- after `write`: the word for a kind, then its parts
 abbrev pub worded : List ℕ → Result Told LineFault
@@ -134,17 +134,17 @@ worded line = kinded (first_word line) (after_word line)
 -- after `document`: nothing, where it is to be shown, or a board
 abbrev pub shown : List ℕ → Result Asked LineFault
 shown rest =
-  if length rest == 0 then Ok document
-  else if bytes_eq rest (codes "count") then Ok (host board.Count)
-  else if bytes_eq rest (codes "slot") then Ok (host board.Slot)
-  else Err UnknownWord
+    if length rest == 0 then Ok document
+    else if bytes_eq rest (codes "count") then Ok (host board.Count)
+    else if bytes_eq rest (codes "slot") then Ok (host board.Slot)
+    else Err UnknownWord
 
 -- after `policy`: its name
 abbrev pub ruled : List ℕ → Result Asked LineFault
 ruled rest =
-  if bytes_eq rest (codes "default") then Ok (policy rules.Default)
-  else if bytes_eq rest (codes "ranges") then Ok (policy rules.Ranges)
-  else Err UnknownWord
+    if bytes_eq rest (codes "default") then Ok (policy rules.Default)
+    else if bytes_eq rest (codes "ranges") then Ok (policy rules.Ranges)
+    else Err UnknownWord
 
 -- after `clock`: a reading, or `step` and the first reading
 abbrev pub clocked : List ℕ → Result Asked LineFault
@@ -153,23 +153,23 @@ clocked rest = if bytes_eq (first_word rest) (codes "step") then made clock_step
 -- a call by its name, and what follows the name
 abbrev pub named : List ℕ → List ℕ → Result Asked LineFault
 named name rest =
-  if bytes_eq name (codes "own") then made own (numbered rest)
-  else if bytes_eq name (codes "document") then shown rest
-  else if bytes_eq name (codes "policy") then ruled rest
-  else if bytes_eq name (codes "clock") then clocked rest
-  else if bytes_eq name (codes "room") then made room (numbered rest)
-  else if bytes_eq name (codes "places") then made places (numbered rest)
-  else if bytes_eq name (codes "handle") then Ok (handle rest)
-  else if bytes_eq name (codes "apply") then Ok (apply rest)
-  else if bytes_eq name (codes "set") then Ok (set rest)
-  else if bytes_eq name (codes "clean") then alone clean rest
-  else if bytes_eq name (codes "remove") then made remove (numbered rest)
-  else if bytes_eq name (codes "show") then made show (numbered rest)
-  else if bytes_eq name (codes "list") then Ok (list rest)
-  else if bytes_eq name (codes "write") then made write (worded rest)
-  else if bytes_eq name (codes "records") then alone records rest
-  else if bytes_eq name (codes "help") then alone help rest
-  else Err UnknownCall
+    if bytes_eq name (codes "own") then made own (numbered rest)
+    else if bytes_eq name (codes "document") then shown rest
+    else if bytes_eq name (codes "policy") then ruled rest
+    else if bytes_eq name (codes "clock") then clocked rest
+    else if bytes_eq name (codes "room") then made room (numbered rest)
+    else if bytes_eq name (codes "places") then made places (numbered rest)
+    else if bytes_eq name (codes "handle") then Ok (handle rest)
+    else if bytes_eq name (codes "apply") then Ok (apply rest)
+    else if bytes_eq name (codes "set") then Ok (set rest)
+    else if bytes_eq name (codes "clean") then alone clean rest
+    else if bytes_eq name (codes "remove") then made remove (numbered rest)
+    else if bytes_eq name (codes "show") then made show (numbered rest)
+    else if bytes_eq name (codes "list") then Ok (list rest)
+    else if bytes_eq name (codes "write") then made write (worded rest)
+    else if bytes_eq name (codes "records") then alone records rest
+    else if bytes_eq name (codes "help") then alone help rest
+    else Err UnknownCall
 
 -- the call of a line without blanks at its ends: nothing where it is empty or begins with #
 abbrev pub called : List ℕ → Result Asked LineFault

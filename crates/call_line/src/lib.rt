@@ -4,4 +4,6 @@
 pub mod call;
 pub mod fault;
 pub mod message;
+#[cfg(test)]
+mod tests;
 pub mod words;

@@ -1,18 +1,14 @@
-// A hub behind one type, whatever its document, clock and policy.
+// The calls of a hub, whatever its document, clock and policy.
 use awareness::clock::{Clock, SetClock, StepClock};
 use awareness::record::Record;
 use awareness::summary::{AwarenessUpdateSummary, ChangeLists};
-use boards::count_board::CountBoard;
-use boards::slot_board::SlotBoard;
 use call_line::call::{Board, Rules};
 use calls::answer::{Handled, Refusal};
-use calls::policy::{DefaultPolicy, Policy, TagRanges};
+use calls::policy::Policy;
 use document::host::DocumentHost;
-use document::tally::Tally;
 use encoding::sink::BufferTooShort;
 use hub::hub::Hub;
 use state_vector::vector::StateVector;
-use std::alloc::Global;
 use std::fmt;
 
 // A clock, by its kind and its first reading.
@@ -152,42 +148,5 @@ impl<H: DocumentHost + Drop, C: Turned + Drop, P: Policy + Drop> Driven for Hub<
 
     fn set_clock(&mut self, reading: u64) {
         C::turn(self, reading);
-    }
-}
-
-// A hub over a host and a policy, with the clock that is asked for.
-fn with_policy<H: DocumentHost + Drop, P: Policy + Drop>(
-    heap: Global,
-    setup: Setup,
-    policy: P,
-) -> anyhow::Result<Result<Box<dyn Driven>, Refusal>> {
-    Ok(match setup.clock {
-        Ticking::Set(reading) => match Hub::<Tally<H>, SetClock, P>::new(setup.own, SetClock { reading }, policy) {
-            Ok(hub) => Ok(Box::new(heap, hub)?),
-            Err(fault) => Err(fault.into()),
-        },
-        Ticking::Step(reading) => match Hub::<Tally<H>, StepClock, P>::new(setup.own, StepClock { reading }, policy) {
-            Ok(hub) => Ok(Box::new(heap, hub)?),
-            Err(fault) => Err(fault.into()),
-        },
-    })
-}
-
-// A hub over a host, with the policy that is asked for.
-fn with_host<H: DocumentHost + Drop>(
-    heap: Global,
-    setup: Setup,
-) -> anyhow::Result<Result<Box<dyn Driven>, Refusal>> {
-    match setup.rules {
-        Rules::Default => with_policy::<H, DefaultPolicy>(heap, setup, DefaultPolicy),
-        Rules::Ranges => with_policy::<H, TagRanges>(heap, setup, TagRanges::new()),
-    }
-}
-
-// A fresh hub as it is asked for, or why there is none.
-pub fn fresh(heap: Global, setup: Setup) -> anyhow::Result<Result<Box<dyn Driven>, Refusal>> {
-    match setup.board {
-        Board::Count => with_host::<CountBoard>(heap, setup),
-        Board::Slot => with_host::<SlotBoard>(heap, setup),
     }
 }

@@ -23,9 +23,7 @@ pub fn read_clients(heap: Global, list: &[u8]) -> anyhow::Result<Vec<u64>> {
 
 // A client and its clock, as `5:300`.
 fn read_entry(word: &str) -> anyhow::Result<VectorEntry> {
-    let (client, clock) = word
-        .split_once(':')
-        .context("an entry is CLIENT:CLOCK")?;
+    let (client, clock) = word.split_once(':').context("an entry is CLIENT:CLOCK")?;
     Ok(VectorEntry {
         client: read_number(client.as_bytes())?,
         clock: u32::try_from(read_number(clock.as_bytes())?).context("a clock has 32 bits")?,

@@ -12,7 +12,8 @@ use std::fmt;
 use std::fmt::Write;
 
 // What help says.
-const HELP: &str = "calls, one a line; HEX is bytes in hexadecimal, TEXT and HEX go on to the end of the line
+const HELP: &str =
+    "calls, one a line; HEX is bytes in hexadecimal, TEXT and HEX go on to the end of the line
   own ID               a fresh hub of this client
   document count|slot  a fresh hub with this board
   policy default|ranges

@@ -1,11 +1,10 @@
 // A hub and what is asked of it, line by line.
-use crate::driven::{Driven, Setup, Ticking, fresh};
+use crate::driven::{Driven, Setup, Ticking};
 use crate::messages::{read_clients, write_words};
 use crate::report::Report;
 use anyhow::ensure;
 use awareness::summary::ChangeLists;
-use call_line::call::{Board, Call, Rules, read_call};
-use calls::answer::Refusal;
+use call_line::call::{Call, read_call};
 use hexadecimal::parse_line;
 use product::fresh_hub;
 use std::alloc::Global;
@@ -13,14 +12,21 @@ use std::alloc::Global;
 // The most bytes of room, and places, that may be asked for.
 const MOST: u64 = 1 << 20;
 
-// A hub, with the caller's room for bytes and places for lists.
+// What a hub is made of, and the caller's room for bytes and places for lists.
+#[derive(Clone, Copy)]
+pub struct State {
+    pub setup: Setup,
+    pub room: usize,
+    pub places: usize,
+}
+
+// A hub that is at work, and what the next one is made of where a fresh one was asked for.
 #[derive(Drop)]
-pub struct Session {
+pub struct Session<D> {
     heap: Global,
-    setup: Setup,
-    hub: Box<dyn Driven>,
-    room: usize,
-    places: usize,
+    state: State,
+    hub: D,
+    next: Option<Setup>,
 }
 
 // A number of bytes or places.
@@ -29,21 +35,24 @@ fn size_of(number: u64) -> anyhow::Result<usize> {
     Ok(number as usize)
 }
 
-impl Session {
-    // The hub that ships, of client 1 and with its clock at 0.
-    pub fn new(heap: Global) -> anyhow::Result<Session> {
-        let setup = Setup {
-            own: 1,
-            board: Board::Count,
-            rules: Rules::Ranges,
-            clock: Ticking::Set(0),
-        };
-        Ok(Session {
+impl<D: Driven> Session<D> {
+    // A hub at its first call.
+    pub fn new(heap: Global, hub: D, state: State) -> Session<D> {
+        Session {
             heap,
+            state,
+            hub,
+            next: None,
+        }
+    }
+
+    // What the next hub works with, where a fresh one was asked for.
+    pub fn next(&self) -> Option<State> {
+        let State { room, places, .. } = self.state;
+        self.next.map(|setup| State {
             setup,
-            hub: Box::new(heap, fresh_hub(1, 0)?)?,
-            room: 1024,
-            places: 64,
+            room,
+            places,
         })
     }
 
@@ -53,47 +62,73 @@ impl Session {
         match read_call(line)? {
             Call::Nothing => {}
             Call::Help => report.add_help()?,
-            Call::Own(own) => self.begin(Setup { own, ..self.setup }, &mut report)?,
-            Call::Host(board) => self.begin(Setup { board, ..self.setup }, &mut report)?,
-            Call::Policy(rules) => self.begin(Setup { rules, ..self.setup }, &mut report)?,
+            Call::Own(own) => self.begin(
+                Setup {
+                    own,
+                    ..self.state.setup
+                },
+                &mut report,
+            )?,
+            Call::Host(board) => self.begin(
+                Setup {
+                    board,
+                    ..self.state.setup
+                },
+                &mut report,
+            )?,
+            Call::Policy(rules) => self.begin(
+                Setup {
+                    rules,
+                    ..self.state.setup
+                },
+                &mut report,
+            )?,
             Call::ClockStep(first) => {
                 let clock = Ticking::Step(first);
-                self.begin(Setup { clock, ..self.setup }, &mut report)?;
+                self.begin(
+                    Setup {
+                        clock,
+                        ..self.state.setup
+                    },
+                    &mut report,
+                )?;
             }
             Call::Clock(reading) => self.set_clock(reading, &mut report)?,
             Call::Room(room) => {
-                self.room = size_of(room)?;
-                report.add_sizes(self.room, self.places)?;
+                self.state.room = size_of(room)?;
+                report.add_sizes(self.state.room, self.state.places)?;
             }
             Call::Places(places) => {
-                self.places = size_of(places)?;
-                report.add_sizes(self.room, self.places)?;
+                self.state.places = size_of(places)?;
+                report.add_sizes(self.state.room, self.state.places)?;
             }
             call => self.ask(call, &mut report)?,
         }
         Ok(report)
     }
 
-    // A fresh hub in place of the one that is; where it is refused, that one stays.
+    // A fresh hub comes in place of this one, unless no hub can be made of that client; then this one stays.
     fn begin(&mut self, setup: Setup, report: &mut Report) -> anyhow::Result<()> {
-        match fresh(self.heap, setup)? {
-            Ok(hub) => {
-                self.hub = hub;
-                self.setup = setup;
+        match fresh_hub(setup.own, 0) {
+            Ok(_) => {
+                self.next = Some(setup);
                 report.add_setup(setup)
             }
-            Err(refusal) => report.add_refusal(refusal),
+            Err(fault) => report.add_refusal(fault.into()),
         }
     }
 
     // The next reading of a clock that is set; a hub with a clock that steps gives way to a fresh one.
     fn set_clock(&mut self, reading: u64, report: &mut Report) -> anyhow::Result<()> {
         let clock = Ticking::Set(reading);
-        let setup = Setup { clock, ..self.setup };
-        match self.setup.clock {
+        let setup = Setup {
+            clock,
+            ..self.state.setup
+        };
+        match self.state.setup.clock {
             Ticking::Set(_) => {
                 self.hub.set_clock(reading);
-                self.setup = setup;
+                self.state.setup = setup;
                 report.add_clock(reading)
             }
             Ticking::Step(_) => self.begin(setup, report),
@@ -122,12 +157,12 @@ impl Session {
 
     // The room for bytes.
     fn out(&self) -> anyhow::Result<Vec<u8>> {
-        Ok(vec![in self.heap; 0u8; self.room]?)
+        Ok(vec![in self.heap; 0u8; self.state.room]?)
     }
 
     // The places of one list.
     fn list_places(&self) -> anyhow::Result<Vec<u64>> {
-        Ok(vec![in self.heap; 0u64; self.places]?)
+        Ok(vec![in self.heap; 0u64; self.state.places]?)
     }
 
     // Messages, with their replies.
