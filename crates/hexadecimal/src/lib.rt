@@ -12,6 +12,7 @@ use std::fmt;
 
 pub mod input;
 pub mod lines;
+pub mod shown;
 
 // Why a line is no row of bytes; a column is counted from 1.
 #[derive(Clone, Copy, Debug, PartialEq, Eq)]

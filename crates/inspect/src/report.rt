@@ -1,6 +1,7 @@
 // Messages in words.
 use crate::normal::write_normal;
 use encoding::entries::Entries;
+use hexadecimal::shown::{Counted, Shown};
 use hexadecimal::{Hex, parse_line};
 use message::message::Message;
 use message::messages::{End, MessageReader, Placed};
@@ -10,43 +11,6 @@ use std::alloc::Global;
 use std::fmt;
 use std::fmt::Write;
 use std::iter::once;
-
-// A number of things, with the word for one of them.
-#[derive(Clone, Copy)]
-struct Counted(usize, &'static str);
-
-impl fmt::Display for Counted {
-    // The number and the word, which has an s where it is not one thing.
-    fn fmt<W: fmt::Write>(&self, f: &mut fmt::Formatter<W>) -> fmt::Result {
-        let Counted(n, word) = *self;
-        write!(f, "{n} {word}")?;
-        if n != 1 {
-            write!(f, "s")?;
-        }
-        Ok(())
-    }
-}
-
-// A text as it is, with its control characters spelt out.
-#[derive(Clone, Copy)]
-struct Shown<'a>(&'a [u8]);
-
-impl fmt::Display for Shown<'_> {
-    // The characters, or the bytes where they are no text.
-    fn fmt<W: fmt::Write>(&self, f: &mut fmt::Formatter<W>) -> fmt::Result {
-        let Ok(text) = std::str::from_utf8(self.0) else {
-            return write!(f, "{}", Hex(self.0));
-        };
-        for c in text.chars() {
-            if c.is_control() {
-                write!(f, "{}", c.escape_unicode())?;
-            } else {
-                write!(f, "{c}")?;
-            }
-        }
-        Ok(())
-    }
-}
 
 // What is printed of a line, with normal forms if these are asked for.
 #[derive(Drop)]
