@@ -20,6 +20,11 @@ use Rattle.calls.specs.declared.fault.Fault.TheVariants.{Wire}
 use Rattle.awareness.specs.Calls.{applied}
 use Rattle.calls.specs.Handling.{Hub, asked, settled, Step, Handling, Sofar, one, each, handle, onward, at_end, next_reading}
 
+-- what stands in front, by what its buffer holds
+pub next_held : (s rest : List ℕ) (m : Said) → message s ≡ Ok (m, rest) → next s ≡ judged (contents m) m rest
+next_held [] rest m e = let l = message_shorter [] rest m e in absurd (omega arith)
+next_held (b ∷ s) rest m e = ap found e
+
 same_fault : (g f : WireFault) → ◌≡◌ {A = Result (Unit {0}) WireFault} (Err g) (Err f) → g ≡ f
 same_fault g f e = cc
 
@@ -43,7 +48,7 @@ module _ (k : Kind) (limit : ℕ) (accepted : Said → Bool) where
   presence_not now h (Ok p) f e = cc
   presence_not now h (Err g) f e = ap (λ x. record { verdict = Err (Wire x); hub = h; reply = []; reads = false }) (same_fault g f e)
 
-  holds_not : (room now : ℕ) (h : Hub k) (m : Said) (f : WireFault) → contents m ≡ Err f → one k limit accepted room now h m ≡ record { verdict = Err (Wire f); hub = h; reply = []; reads = false }
+  pub holds_not : (room now : ℕ) (h : Hub k) (m : Said) (f : WireFault) → contents m ≡ Err f → one k limit accepted room now h m ≡ record { verdict = Err (Wire f); hub = h; reply = []; reads = false }
   holds_not room now h (step1 part) f e = vector_not room h (vector_entries part) f e
   holds_not room now h (awareness part) f e = presence_not now h (presence part) f e
   holds_not room now h (step2 part) f e = cc

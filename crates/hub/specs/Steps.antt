@@ -1,13 +1,15 @@
 -- What a call of a hub does, in terms of what the hub means.
 --   hub_of    what a hub means, by its records and its host's document
 --   Stepped   what one message does
---   Handled   what handling bytes does
-use Rattle.std.specs.Prelude.{◌≡◌, ℕ, ◌-◌, Bool, false, List, [], ◌++◌, length, Ok, Err, Result}
+--   Handles   what handling bytes does
+--   updates, for_policy   the messages that concern the host of the document, and the policy
+--   none_of   no message of a row is picked
+use Rattle.std.specs.Prelude.{◌≡◌, ℕ, ◌-◌, Bool, true, false, not, ◌&&◌, List, [], ◌∷◌, ◌++◌, length, Ok, Err, Result}
 use Rattle.encoding.specs.declared.fault.WireFault.{WireFault}
 use Rattle.encoding.specs.Fields.{client_id}
 use Rattle.std.specs.Result.{result_and}
 use Rattle.encoding.specs.TwoSinks.{stood}
-use Rattle.message.specs.Message.{Said}
+use Rattle.message.specs.Message.{Said, step1, step2, update, awareness, denied, granted, query, custom}
 use Rattle.awareness.specs.Calls.{ReadIf}
 use Rattle.awareness.specs.Record.{Clients}
 use Rattle.document.specs.Kind.{Kind}
@@ -63,3 +65,30 @@ pub record Handles {C : Type 0} (next : C → ℕ) (leads : C → C → Type 0) 
   pub does : (later : List ℕ) → handle k limit accepted (length old.buffer) (readings ++ later) old.hub bytes ≡ record { answer = r; hub = new.hub; replies = replies; left = later }
   -- they stand in the buffer, and the rest of it is as it was
   pub stand : new.buffer ≡ stood old.buffer 0 replies
+
+-- the messages that concern the host of the document
+abbrev pub updates : Said → Bool
+updates (step2 part) = true
+updates (update part) = true
+updates (step1 part) = false
+updates (awareness part) = false
+updates (denied reason) = false
+updates granted = false
+updates query = false
+updates (custom tag part) = false
+
+-- the messages that concern the policy
+abbrev pub for_policy : Said → Bool
+for_policy (denied reason) = true
+for_policy granted = true
+for_policy (custom tag part) = true
+for_policy (step1 part) = false
+for_policy (step2 part) = false
+for_policy (update part) = false
+for_policy (awareness part) = false
+for_policy query = false
+
+-- no message of a row is picked
+abbrev pub none_of : (Said → Bool) → List (ℕ × Said) → Bool
+none_of picks [] = true
+none_of picks (m ∷ ms) = not (picks m.1) && none_of picks ms

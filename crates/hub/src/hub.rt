@@ -1,14 +1,15 @@
 // The hub: presence, a document behind a host, a clock and a policy.
-ghost use Rattle.std.specs.Prelude.{◌≡◌, ℕ, ◌-◌, false, [], length, IfOk, is_ok, Ok, Err};
+ghost use Rattle.std.specs.Prelude.{◌≡◌, ℕ, ◌-◌, true, false, [], length, IfOk, is_ok, Ok, Err};
 ghost use Rattle.std.specs.Result.{result_and, result_map_both};
 ghost use Rattle.state_vector.specs.Vector.{vector};
 ghost use Rattle.message.specs.Message.{Said, means};
+ghost use Rattle.message.specs.Messages.{messages};
 ghost use Rattle.message.specs.Presence.{presence};
 ghost use Rattle.awareness.specs.Calls.{applied, ReadIf};
 ghost use Rattle.calls.specs.Handling.{asked, queried, settled, handle, one};
 ghost use Rattle.law.specs.Law.{Law};
 ghost use Rattle.hub.specs.Lawful.{Keeps, HandleTold};
-ghost use Rattle.hub.specs.Steps.{fresh, hub_of, Replied, Stepped, Handles};
+ghost use Rattle.hub.specs.Steps.{fresh, hub_of, none_of, updates, for_policy, Replied, Stepped, Handles};
 
 use crate::live::LiveRecords;
 use awareness::awareness::Awareness;
@@ -145,6 +146,8 @@ impl<H: DocumentHost, C: Clock, P: Policy> Hub<H, C, P> {
     fn step(&mut self, message: Message<'_>, out: &mut [u8], at: usize) -> Result<usize, Fault>
         ensures stepped { Stepped C.Clock.next C.Clock.leads H.kind H.LIMIT (P.Policy.accepts self.old.policy) at (means message.entry) (record { hub = hub_of H.kind self.old.presence (H.document self.old.host); clock = self.old.clock; buffer = out.old }) (record { hub = hub_of H.kind self.new.presence (H.document self.new.host); clock = self.new.clock; buffer = out.new }) result }
         ensures policy { (m : Said) → P.Policy.accepts self.new.policy m ≡ P.Policy.accepts self.old.policy m }
+        ensures host_untouched { updates (means message.entry) ≡ false → self.new.host ≡ self.old.host }
+        ensures policy_untouched { for_policy (means message.entry) ≡ false → self.new.policy ≡ self.old.policy }
     {
         match message {
             Message::SyncStep1(part) => return self.reply_to_step1(part, out, at),
@@ -163,6 +166,8 @@ impl<H: DocumentHost, C: Clock, P: Policy> Hub<H, C, P> {
         ensures law { Keeps H.kind H.LIMIT (P.Policy.accepts self.old.policy) (P.Policy.accepts self.new.policy) (HandleTold C.Clock.next C.Clock.leads bytes.now replies.old replies.new self.old.clock self.new.clock result) (hub_of H.kind self.old.presence (H.document self.old.host)) (hub_of H.kind self.new.presence (H.document self.new.host)) }
         ensures handles { Handles C.Clock.next C.Clock.leads H.kind H.LIMIT (P.Policy.accepts self.old.policy) bytes.now (record { hub = hub_of H.kind self.old.presence (H.document self.old.host); clock = self.old.clock; buffer = replies.old }) (record { hub = hub_of H.kind self.new.presence (H.document self.new.host); clock = self.new.clock; buffer = replies.new }) result }
         ensures policy { (m : Said) → P.Policy.accepts self.new.policy m ≡ P.Policy.accepts self.old.policy m }
+        ensures host_untouched { none_of updates (messages bytes.now).said ≡ true → self.new.host ≡ self.old.host }
+        ensures policy_untouched { none_of for_policy (messages bytes.now).said ≡ true → self.new.policy ≡ self.old.policy }
     {
         self.handle_each(bytes, replies)
     }
@@ -171,6 +176,8 @@ impl<H: DocumentHost, C: Clock, P: Policy> Hub<H, C, P> {
     fn handle_each(&mut self, bytes: &[u8], replies: &mut [u8]) -> Result<Handled, Refusal>
         ensures handles { Handles C.Clock.next C.Clock.leads H.kind H.LIMIT (P.Policy.accepts self.old.policy) bytes.now (record { hub = hub_of H.kind self.old.presence (H.document self.old.host); clock = self.old.clock; buffer = replies.old }) (record { hub = hub_of H.kind self.new.presence (H.document self.new.host); clock = self.new.clock; buffer = replies.new }) result }
         ensures policy { (m : Said) → P.Policy.accepts self.new.policy m ≡ P.Policy.accepts self.old.policy m }
+        ensures host_untouched { none_of updates (messages bytes.now).said ≡ true → self.new.host ≡ self.old.host }
+        ensures policy_untouched { none_of for_policy (messages bytes.now).said ≡ true → self.new.policy ≡ self.old.policy }
     {
         let mut done = Handled {
             messages: 0,

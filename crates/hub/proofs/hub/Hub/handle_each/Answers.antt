@@ -1,11 +1,13 @@
-use Rattle.std.proofs.Common.{rules, ◌≡◌, length, Ok, Err, refl, ap, ◌∙◌, arith}
+use Rattle.std.proofs.Common.{rules, ◌≡◌, ◌+◌, ◌-◌, length, Ok, Err, refl, ap, ◌∙◌, arith}
 use Rattle.message.specs.Message.{means, message}
 use Rattle.message.proofs.Contents.{message_shorter}
+use Rattle.hub.specs.Steps.{updates, for_policy}
+use Rattle.hub.proofs.Untouched.{alone_start, alone_on, alone_then, done_held, updates_hold, policies_hold}
 use Rattle.hub.proofs.Walked.{walked_start, walked_end, walked_stopped, handles_as, walked_on, walked_off}
 use Rattle.hub.proofs.hub.Hub.handle_each.Goals as goal
 
 pub loop-rest-init : goal.loop-rest-init
-loop-rest-init g c = (walked_start g.C.Clock.next g.C.Clock.leads g.H.DocumentHost.kind g.H.DocumentHost.LIMIT (g.P.Policy.accepts c.args.self.now.policy) c.args.bytes.now _, λ m. refl)
+loop-rest-init g c = (walked_start g.C.Clock.next g.C.Clock.leads g.H.DocumentHost.kind g.H.DocumentHost.LIMIT (g.P.Policy.accepts c.args.self.now.policy) c.args.bytes.now _, λ m. refl, alone_start updates c.args.bytes.now c.args.self.now.host, alone_start for_policy c.args.bytes.now c.args.self.now.policy)
 
 pub returns-in-Err-clause-handles : goal.returns-in-Err-clause-handles
 returns-in-Err-clause-handles g c =
@@ -36,13 +38,29 @@ loop-rest-smaller g c =
 pub loop-rest-preserved : goal.loop-rest-preserved
 loop-rest-preserved g c =
     let first : message c.loop-rest.rest.now ≡ Ok (means c.in-Ok.read.0, c.in-Ok.read.1.now) = search rules in
-    let ok : c.step.result ≡ Ok c.in-Ok-step.reply = search rules in (
+    let ok : c.step.result ≡ Ok c.in-Ok-step.reply = search rules in
+    let held = done_held g.C.Clock.next g.C.Clock.leads g.H.DocumentHost.kind g.H.DocumentHost.LIMIT (g.P.Policy.accepts c.loop-rest.self.policy) c.loop-rest.done.replies (means c.in-Ok.read.0) _ _ c.step.result c.in-Ok-step.reply c.step.ensures.stepped ok in
+    let shorter = message_shorter c.loop-rest.rest.now c.in-Ok.read.1.now (means c.in-Ok.read.0) first in
+    let w = c.loop-rest.invariant.0 in
+    let onward : length c.args.bytes.now - length c.in-Ok.read.1.now ≡ c.loop-rest.done.place + (length c.loop-rest.rest.now - length c.in-Ok.read.1.now) = omega (arith, w.place, w.within) in (
       walked_on g.C.Clock.next g.C.Clock.leads g.H.DocumentHost.kind g.H.DocumentHost.LIMIT (g.P.Policy.accepts c.args.self.now.policy) c.args.bytes.now _ c.loop-rest.done c.loop-rest.rest.now _ c.loop-rest.invariant.0
           (means c.in-Ok.read.0) c.in-Ok.read.1.now first (g.P.Policy.accepts c.loop-rest.self.policy) (c.loop-rest.invariant.1 (means c.in-Ok.read.0)) c.step.result _ c.step.ensures.stepped c.in-Ok-step.reply ok,
-      λ m. c.step.ensures.policy m ∙ c.loop-rest.invariant.1 m,
+      (λ m. c.step.ensures.policy m ∙ c.loop-rest.invariant.1 m),
+      alone_on updates updates_hold c.args.bytes.now c.args.self.now.host c.loop-rest.done.place c.loop-rest.rest.now c.loop-rest.self.host c.loop-rest.invariant.2 c.in-Ok.read.1.now (means c.in-Ok.read.0) first c.step.new.self.host c.step.ensures.host_untouched held (length c.args.bytes.now - length c.in-Ok.read.1.now) onward,
+      alone_on for_policy policies_hold c.args.bytes.now c.args.self.now.policy c.loop-rest.done.place c.loop-rest.rest.now c.loop-rest.self.policy c.loop-rest.invariant.3 c.in-Ok.read.1.now (means c.in-Ok.read.0) first c.step.new.self.policy c.step.ensures.policy_untouched held (length c.args.bytes.now - length c.in-Ok.read.1.now) onward,
     )
 
 pub returns-clause-handles : goal.returns-clause-handles
 returns-clause-handles g c =
     let none : length c.loop-rest.rest.now ≡ 0 = search rules in
     walked_end g.C.Clock.next g.C.Clock.leads g.H.DocumentHost.kind g.H.DocumentHost.LIMIT (g.P.Policy.accepts c.args.self.now.policy) c.args.bytes.now _ c.loop-rest.done c.loop-rest.rest.now _ c.loop-rest.invariant.0 none
+
+pub returns-in-Err-step-clause-host_untouched : goal.returns-in-Err-step-clause-host_untouched
+returns-in-Err-step-clause-host_untouched g c =
+    let first : message c.loop-rest.rest.now ≡ Ok (means c.in-Ok.read.0, c.in-Ok.read.1.now) = search rules in
+    alone_then updates updates_hold c.args.bytes.now c.args.self.now.host c.loop-rest.done.place c.loop-rest.rest.now c.loop-rest.self.host c.loop-rest.invariant.2 c.in-Ok.read.1.now (means c.in-Ok.read.0) first c.step.new.self.host c.step.ensures.host_untouched
+
+pub returns-in-Err-step-clause-policy_untouched : goal.returns-in-Err-step-clause-policy_untouched
+returns-in-Err-step-clause-policy_untouched g c =
+    let first : message c.loop-rest.rest.now ≡ Ok (means c.in-Ok.read.0, c.in-Ok.read.1.now) = search rules in
+    alone_then for_policy policies_hold c.args.bytes.now c.args.self.now.policy c.loop-rest.done.place c.loop-rest.rest.now c.loop-rest.self.policy c.loop-rest.invariant.3 c.in-Ok.read.1.now (means c.in-Ok.read.0) first c.step.new.self.policy c.step.ensures.policy_untouched

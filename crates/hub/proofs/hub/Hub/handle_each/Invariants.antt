@@ -1,6 +1,7 @@
 use Rattle.std.proofs.Common.{◌≡◌, length}
 use Rattle.message.specs.Message.{Said}
-use Rattle.hub.specs.Steps.{hub_of}
+use Rattle.hub.specs.Steps.{hub_of, updates, for_policy}
+use Rattle.hub.proofs.Untouched.{Alone}
 use Rattle.hub.proofs.Walked.{Walked}
 use Rattle.hub.proofs.hub.Hub.handle_each.Given as goal
 
@@ -11,6 +12,7 @@ invariant-loop-rest g l =
     (record { hub = hub_of g.H.DocumentHost.kind l.initial.self.presence (g.H.DocumentHost.document l.initial.self.host); clock = l.initial.self.clock; buffer = l.initial.replies }) l.done l.rest
     (record { hub = hub_of g.H.DocumentHost.kind l.self.presence (g.H.DocumentHost.document l.self.host); clock = l.self.clock; buffer = l.replies })
     × ((m : Said) → g.P.Policy.accepts l.self.policy m ≡ g.P.Policy.accepts l.initial.self.policy m)
+    × Alone updates l.bytes l.initial.self.host l.done.place l.rest l.self.host × Alone for_policy l.bytes l.initial.self.policy l.done.place l.rest l.self.policy
 
 abbrev pub decreases-loop-rest : goal.decreases-loop-rest
 decreases-loop-rest g l = length l.rest
