@@ -71,6 +71,11 @@ impl Site {
         Ok(held)
     }
 
+    // What is held of a client, and the clock's next reading.
+    fn stands(&self, client: u64) -> Result<(Option<Held>, u64), WireFault> {
+        Ok((self.held(client)?, self.clock.reading))
+    }
+
     fn set(&mut self, text: &[u8]) -> Result<(), AwarenessFault> {
         self.hub.set_local_state_raw(text, &mut self.clock)
     }
@@ -97,90 +102,93 @@ fn null(clock: u32, time: u64) -> Option<Held> {
     })
 }
 
+// An update, what it tells, and what is held of a client then.
+#[derive(Clone, Copy)]
+struct Step<'a> {
+    update: &'a [u8],
+    told: Result<[usize; 4], AwarenessFault>,
+    held: Option<Held>,
+}
+
+// Updates come one after another, and the clock is read once for each that is taken.
+fn check_steps(rt: &impl Abort, site: &mut Site, client: u64, steps: &[Step]) -> Result<(), Fail> {
+    for step in steps {
+        let before = site.clock.reading;
+        assert_eq!(rt; site.apply(step.update), step.told);
+        assert_eq!(rt; site.held(client)?, step.held);
+        let read = if step.told.is_ok() { 1 } else { 0 };
+        assert_eq!(rt; site.clock.reading.checked_sub(before), Some(read));
+    }
+    Ok(())
+}
+
+// A step that is taken.
+fn taken(update: &[u8], lists: [usize; 4], held: Option<Held>) -> Step<'_> {
+    Step {
+        update,
+        told: Ok(lists),
+        held,
+    }
+}
+
+// A step that the table of records cannot do.
+fn refused(update: &[u8], fault: PresenceFault, held: Option<Held>) -> Step<'_> {
+    Step {
+        update,
+        told: Err(AwarenessFault::Presence(fault)),
+        held,
+    }
+}
+
 #[test]
 fn an_own_text_stands_above_nulls(rt: HostRuntime) -> Result<(), Fail> {
-    let mut site = Site::new()?;
-    site.apply(b"\x01\x01\x05\x01a")?;
-    assert_eq!(rt; site.held(1)?, live(5, 100));
-    assert_eq!(rt; site.apply(b"\x01\x01\x05\x04null")?, [0, 1, 0, 0]);
-    assert_eq!(rt; site.updated[0], 1, "raised, and listed as updated");
-    assert_eq!(rt; site.held(1)?, live(6, 101));
-    assert_eq!(rt; site.apply(b"\x01\x01\x05\x04null")?, [0, 0, 0, 0]);
-    assert_eq!(rt; site.apply(b"\x01\x01\x04\x04null")?, [0, 0, 0, 0]);
-    assert_eq!(rt; site.held(1)?, live(6, 101));
     let last_but_one = b"\x01\x01\xfe\xff\xff\xff\x0f\x04null";
-    assert_eq!(rt; site.apply(last_but_one)?, [0, 1, 0, 0]);
-    assert_eq!(rt; site.held(1)?, live(u32::MAX, 104));
     let last = b"\x01\x01\xff\xff\xff\xff\x0f\x04null";
-    let at_end = AwarenessFault::Presence(PresenceFault::ClockAtEnd);
-    assert_eq!(rt; site.apply(last), Err(at_end));
-    assert_eq!(rt; site.held(1)?, live(u32::MAX, 104));
-    assert_eq!(rt; site.clock.reading, 105, "a refusal reads no clock");
+    let steps = [
+        taken(b"\x01\x01\x05\x01a", [1, 0, 0, 0], live(5, 100)),
+        taken(b"\x01\x01\x05\x04null", [0, 1, 0, 0], live(6, 101)),
+        taken(b"\x01\x01\x05\x04null", [0, 0, 0, 0], live(6, 101)),
+        taken(b"\x01\x01\x04\x04null", [0, 0, 0, 0], live(6, 101)),
+        taken(last_but_one, [0, 1, 0, 0], live(u32::MAX, 104)),
+        refused(last, PresenceFault::ClockAtEnd, live(u32::MAX, 104)),
+        taken(b"\x00", [0, 0, 0, 0], live(u32::MAX, 104)),
+    ];
+    let mut site = Site::new()?;
+    check_steps(&rt, &mut site, 1, &steps)?;
+    assert_eq!(rt; &site.updated[..2], [1, NO_CLIENT].as_slice());
     Ok(())
 }
 
 #[test]
-fn null_wins_a_tie(rt: HostRuntime) -> Result<(), Fail> {
-    let mut site = Site::new()?;
+fn null_wins_a_tie_and_the_first_text(rt: HostRuntime) -> Result<(), Fail> {
     let comes = b"\x01\x07\x03\x04\"in\"";
-    assert_eq!(rt; site.apply(comes)?, [1, 0, 0, 0]);
-    assert_eq!(rt; site.held(7)?, live(3, 100));
-    assert_eq!(rt; site.apply(b"\x01\x07\x03\x04null")?, [0, 0, 0, 1]);
-    assert_eq!(rt; site.held(7)?, null(3, 101));
-    assert_eq!(rt; site.apply(comes)?, [0, 0, 0, 0]);
-    assert_eq!(rt; site.held(7)?, null(3, 101));
-    Ok(())
-}
-
-#[test]
-fn the_first_text_of_a_clock_stays(rt: HostRuntime) -> Result<(), Fail> {
+    let steps = [
+        taken(comes, [1, 0, 0, 0], live(3, 100)),
+        taken(b"\x01\x07\x03\x04null", [0, 0, 0, 1], null(3, 101)),
+        taken(comes, [0, 0, 0, 0], null(3, 101)),
+        taken(b"\x01\x07\x04\x01a", [0, 1, 1, 0], live(4, 103)),
+        taken(b"\x01\x07\x04\x01b", [0, 0, 0, 0], live(4, 103)),
+        taken(b"\x01\x07\x05\x01a", [0, 1, 0, 0], live(5, 105)),
+        taken(b"\x01\x05\x01\x04null", [0, 0, 0, 0], live(5, 105)),
+    ];
     let mut site = Site::new()?;
-    assert_eq!(rt;
-        site.apply(b"\x02\x07\x03\x01a\x07\x03\x01b")?,
-        [1, 0, 0, 0]
-    );
+    check_steps(&rt, &mut site, 7, &steps)?;
     let mut out = [0; 5];
     site.hub.update(&mut out)?;
-    assert_eq!(rt; out, *b"\x01\x07\x03\x01a");
+    assert_eq!(rt; out, *b"\x01\x07\x05\x01a");
+    assert_eq!(rt; site.held(5)?, null(1, 106), "in no list, but held");
     Ok(())
 }
 
 #[test]
-fn texts_over_records(rt: HostRuntime) -> Result<(), Fail> {
+fn lists_ascend_and_a_client_can_be_in_each(rt: HostRuntime) -> Result<(), Fail> {
+    let all = b"\x04\x09\x01\x01a\x07\x01\x01a\x07\x02\x01b\x07\x03\x04null";
     let mut site = Site::new()?;
-    site.apply(b"\x02\x07\x03\x01a\x09\x03\x04null")?;
-    let same_and_over_null = b"\x02\x09\x04\x01a\x07\x04\x01a";
-    assert_eq!(rt; site.apply(same_and_over_null)?, [0, 2, 1, 0]);
-    assert_eq!(rt; &site.updated[..3], [7, 9, NO_CLIENT].as_slice());
-    assert_eq!(rt; &site.changed[..2], [9, NO_CLIENT].as_slice());
-    assert_eq!(rt; site.apply(b"\x01\x05\x01\x04null")?, [0, 0, 0, 0]);
-    assert_eq!(rt; site.held(5)?, null(1, 102), "in no list, but held");
-    Ok(())
-}
-
-#[test]
-fn one_update_adds_changes_and_removes_a_client(rt: HostRuntime) -> Result<(), Fail> {
-    let mut site = Site::new()?;
-    let all = b"\x03\x07\x01\x01a\x07\x02\x01b\x07\x03\x04null";
-    assert_eq!(rt; site.apply(all)?, [1, 1, 1, 1]);
-    let firsts = [
-        site.added[0],
-        site.updated[0],
-        site.changed[0],
-        site.removed[0],
-    ];
-    assert_eq!(rt; firsts, [7; 4]);
+    assert_eq!(rt; site.apply(all)?, [2, 1, 1, 1]);
+    assert_eq!(rt; &site.added[..3], [7, 9, NO_CLIENT].as_slice());
+    let firsts = [site.updated[0], site.changed[0], site.removed[0]];
+    assert_eq!(rt; firsts, [7; 3]);
     assert_eq!(rt; site.held(7)?, null(3, 100));
-    assert_eq!(rt; site.clock.reading, 101, "read once");
-    Ok(())
-}
-
-#[test]
-fn an_empty_update_reads_the_clock(rt: HostRuntime) -> Result<(), Fail> {
-    let mut site = Site::new()?;
-    assert_eq!(rt; site.apply(b"\x00")?, [0, 0, 0, 0]);
-    assert_eq!(rt; site.clock.reading, 101);
-    assert_eq!(rt; site.hub.records().len(), 0);
     Ok(())
 }
 
@@ -197,27 +205,44 @@ fn many() -> [u8; 253] {
     update
 }
 
-#[test]
-fn a_65th_client_is_refused(rt: HostRuntime) -> Result<(), Fail> {
+// 64 clients, of whom the own one is live at the last clock.
+fn full() -> Result<Site, Fail> {
     let mut site = Site::new()?;
     site.apply(b"\x01\x01\xff\xff\xff\xff\x0f\x01a")?;
     site.apply(&many())?;
-    assert_eq!(rt; site.hub.records().len(), 64);
-    let full = AwarenessFault::Presence(PresenceFault::TooManyClients);
-    assert_eq!(rt; site.apply(b"\x01\x41\x01\x01a"), Err(full));
+    Ok(site)
+}
+
+// The table is judged before the own clock, in each call.
+#[test]
+fn a_65th_client_is_refused(rt: HostRuntime) -> Result<(), Fail> {
+    let mut site = full()?;
+    let held = live(u32::MAX, 100);
     let both = b"\x02\x01\xff\xff\xff\xff\x0f\x04null\x41\x01\x01a";
-    assert_eq!(rt; site.apply(both), Err(full), "before the own clock");
-    let at_end = AwarenessFault::Presence(PresenceFault::ClockAtEnd);
     let known = b"\x02\x01\xff\xff\xff\xff\x0f\x04null\x40\x02\x01a";
-    assert_eq!(rt; site.apply(known), Err(at_end));
-    assert_eq!(rt; site.remove(65), Err(full));
-    assert_eq!(rt; site.remove(1), Err(at_end));
-    assert_eq!(rt; site.set(b"b"), Err(at_end));
+    let steps = [
+        refused(b"\x01\x41\x01\x01a", PresenceFault::TooManyClients, held),
+        refused(both, PresenceFault::TooManyClients, held),
+        refused(known, PresenceFault::ClockAtEnd, held),
+        taken(b"\x01\x40\x02\x01b", [0, 1, 1, 0], held),
+    ];
+    check_steps(&rt, &mut site, 1, &steps)?;
     assert_eq!(rt; site.hub.records().len(), 64);
+    assert_eq!(rt; site.held(64)?, live(2, 102));
+    Ok(())
+}
+
+#[test]
+fn a_full_table_refuses_removals_and_sets(rt: HostRuntime) -> Result<(), Fail> {
+    let mut site = full()?;
+    let none = Err(AwarenessFault::Presence(PresenceFault::TooManyClients));
+    let at_end = Err(AwarenessFault::Presence(PresenceFault::ClockAtEnd));
+    assert_eq!(rt; site.remove(65), none);
+    assert_eq!(rt; site.remove(1), at_end);
+    assert_eq!(rt; site.set(b"b"), at_end);
     assert_eq!(rt; site.held(1)?, live(u32::MAX, 100));
-    assert_eq!(rt; site.held(64)?, live(1, 101));
+    assert_eq!(rt; site.hub.records().len(), 64);
     assert_eq!(rt; site.clock.reading, 102, "no refusal reads it");
-    assert_eq!(rt; site.apply(b"\x01\x40\x02\x01b")?, [0, 1, 1, 0]);
     Ok(())
 }
 
@@ -285,21 +310,28 @@ fn each_list_needs_64_places(rt: HostRuntime) -> Result<(), Fail> {
 fn the_own_state_is_set(rt: HostRuntime) -> Result<(), Fail> {
     let mut site = Site::new()?;
     site.set(b"a")?;
-    assert_eq!(rt; site.held(1)?, live(1, 100));
+    assert_eq!(rt; site.stands(1)?, (live(1, 100), 101));
     site.set(b"null")?;
-    assert_eq!(rt; site.held(1)?, null(2, 101), "null, and not its text");
-    let text = [b'a'; 257];
-    let too_long = Err(AwarenessFault::Wire(WireFault::TextTooLong));
-    let no_text = Err(AwarenessFault::Wire(WireFault::UnexpectedValue));
-    assert_eq!(rt; site.set(&text), too_long);
-    assert_eq!(rt; site.set(b"\xff"), no_text);
-    assert_eq!(rt; site.held(1)?, null(2, 101));
-    assert_eq!(rt; site.clock.reading, 102);
-    site.set(&text[1..])?;
-    assert_eq!(rt; site.held(1)?, live(3, 102));
+    assert_eq!(rt; site.stands(1)?, (null(2, 101), 102), "null, and no text");
+    site.set(&[b'a'; 256])?;
+    assert_eq!(rt; site.stands(1)?, (live(3, 102), 103));
     site.hub.clean_local_state(&mut site.clock)?;
-    assert_eq!(rt; site.held(1)?, null(4, 102), "it keeps its time");
-    assert_eq!(rt; site.clock.reading, 103);
+    assert_eq!(rt; site.stands(1)?, (null(4, 102), 103), "it keeps its time");
+    Ok(())
+}
+
+#[test]
+fn no_text_is_set_that_cannot_be_read(rt: HostRuntime) -> Result<(), Fail> {
+    let mut site = Site::new()?;
+    site.set(b"a")?;
+    let table: [(&[u8], WireFault); 2] = [
+        (&[b'a'; 257], WireFault::TextTooLong),
+        (b"\xff", WireFault::UnexpectedValue),
+    ];
+    for (text, fault) in table {
+        assert_eq!(rt; site.set(text), Err(AwarenessFault::Wire(fault)));
+        assert_eq!(rt; site.stands(1)?, (live(1, 100), 101));
+    }
     Ok(())
 }
 
@@ -308,20 +340,21 @@ fn clients_are_removed(rt: HostRuntime) -> Result<(), Fail> {
     let mut site = Site::new()?;
     site.apply(b"\x01\x07\x03\x01a")?;
     site.remove(7)?;
-    assert_eq!(rt; site.held(7)?, null(4, 100));
-    assert_eq!(rt;
-        site.clock.reading,
-        101,
-        "one that is held needs no reading"
-    );
+    assert_eq!(rt; site.stands(7)?, (null(4, 100), 101), "held: not read");
     site.remove(9)?;
-    assert_eq!(rt; site.held(9)?, null(1, 101));
-    assert_eq!(rt; site.clock.reading, 102);
+    assert_eq!(rt; site.stands(9)?, (null(1, 101), 102), "absent: read");
+    Ok(())
+}
+
+#[test]
+fn ids_are_below_2_to_the_53(rt: HostRuntime) -> Result<(), Fail> {
+    let mut site = Site::new()?;
     let no_id = Err(AwarenessFault::Wire(WireFault::InvalidClientId));
     assert_eq!(rt; site.remove(NO_CLIENT), no_id);
     assert_eq!(rt; site.held(NO_CLIENT), Err(WireFault::InvalidClientId));
     assert!(rt; Awareness::new(NO_CLIENT).is_err());
-    assert_eq!(rt; site.hub.client_id(), 1);
+    let last = Awareness::new(NO_CLIENT - 1)?;
+    assert_eq!(rt; last.client_id(), NO_CLIENT - 1);
     Ok(())
 }
 

@@ -2,7 +2,7 @@
 #![tactic(auto)]
 
 use crate::report::{Report, Rows};
-use anyhow::bail;
+use anyhow::{bail, ensure};
 use boards::count_board::CountBoard;
 use boards::slot_board::SlotBoard;
 use document::host::DocumentHost;
@@ -13,6 +13,9 @@ use std::rt::{Env, Files};
 use std::{env, fmt};
 
 mod report;
+
+// How the program is called.
+const USAGE: &str = "usage: board_updates count|slot [FILE] ..";
 
 // The board that takes the updates.
 #[derive(Clone, Copy)]
@@ -45,7 +48,7 @@ impl Asked {
     }
 }
 
-// The arguments: boards, each with at most one file.
+// The arguments: one board or more, each with at most one file.
 fn read_args(rt: &(impl Env + AllocGlobal)) -> anyhow::Result<Vec<Asked>> {
     let mut asked: Vec<Asked> = Vec::new(rt.alloc());
     for arg in env::args(rt)?.skip(1) {
@@ -54,10 +57,11 @@ fn read_args(rt: &(impl Env + AllocGlobal)) -> anyhow::Result<Vec<Asked>> {
             "slot" => asked.push(Asked::new(Board::Slot))?,
             _ => match asked.last_mut() {
                 Some(last) if last.file.is_none() => last.file = Some(arg),
-                _ => bail!("usage: board_updates count|slot [FILE] .."),
+                _ => bail!("{USAGE}"),
             },
         }
     }
+    ensure!(!asked.is_empty(), "{USAGE}");
     Ok(asked)
 }
 

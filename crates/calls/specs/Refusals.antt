@@ -5,9 +5,8 @@
 --   shown_of     what is held of a client, or why it can't be told
 --   listing_of   the update of some clients, or why there is none
 --   sent         bytes that are written, or why they are not
---   both         two rows of bytes, one after the other
 --   Put          bytes at the front of the caller's buffer, or a refusal that changes nothing
-use Rattle.std.specs.Prelude.{◌≡◌, ℕ, ◌<◌, List, ◌++◌, length, Ok, Err, Option, Result}
+use Rattle.std.specs.Prelude.{◌≡◌, ℕ, ◌<◌, List, length, Ok, Err, Result}
 use Rattle.encoding.specs.declared.fault.WireFault.{WireFault}
 use Rattle.encoding.specs.TwoSinks.{stood}
 use Rattle.encoding.specs.Writing.{Row}
@@ -40,12 +39,6 @@ row_of (Err f) = Err (of_awareness f)
 abbrev pub sent : Row → Result (List ℕ) Fault
 sent (Ok bs) = Ok bs
 sent (Err f) = Err (of_writing f)
-
--- two rows, one after the other
-abbrev pub both : Row → Row → Row
-both (Ok a) (Ok b) = Ok (a ++ b)
-both (Ok a) (Err f) = Err f
-both (Err f) r = Err f
 
 -- the bytes stand at the front of the buffer, and their number is told; or they do not fit, or there are none: then the buffer is as it was
 abbrev pub Put : List ℕ → Result (List ℕ) Fault → Result ℕ Refusal → List ℕ → Type 0

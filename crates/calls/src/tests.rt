@@ -93,7 +93,10 @@ fn faults_of_a_layer_are_those_of_all(rt: HostRuntime) {
 fn the_default_policy_accepts_grants_alone(rt: HostRuntime) {
     let mut policy = DefaultPolicy;
     assert_eq!(rt; policy.auth(None), Ok(()));
-    assert_eq!(rt; policy.auth(Some(b"no")), Err(PolicyFault::PermissionDenied));
+    assert_eq!(rt;
+        policy.auth(Some(b"no")),
+        Err(PolicyFault::PermissionDenied)
+    );
     for tag in [4, 16, 31, 255] {
         assert_eq!(rt; policy.custom(tag, b""), Err(PolicyFault::Unsupported));
     }

@@ -5,7 +5,7 @@ use Rattle.std.proofs.lemmas.List.{length-map}
 use Rattle.std.proofs.lemmas.List.Elements.{All-filter, All-map}
 use Rattle.encoding.specs.Writing.{counted_out, row_out, shortest}
 use Rattle.state_vector.specs.Tables.{all_above, ascends}
-use Rattle.joined_tables.proofs.Choosing.{ascends_kept, few_kept}
+use Rattle.state_vector.proofs.Kept.{ascends_kept, few_kept}
 use Rattle.message.specs.Presence.{Entry}
 use Rattle.message.specs.Writing.{Readable, presence_entry_out, presence_out}
 use Rattle.awareness.specs.Record.{Record, client_of, entry_of, live, Writable}
@@ -24,10 +24,11 @@ ascends_map (r ∷ rows) = ap (λ b. b && ascends client (map entry_of rows)) (a
 -- what is live among records that ascend and can be written can be written
 pub live_sound : (rows : List Record) → length rows ≤ 64 → ascends client_of rows ≡ true → All Writable rows → (length (map entry_of (filter live rows)) ≤ 64) × (ascends client (map entry_of (filter live rows)) ≡ true) × All Readable (map entry_of (filter live rows))
 live_sound rows l up w =
-    let few = few_kept client_of live rows in
-    (omega (arith, length-map (filter live rows) entry_of, few, l),
-        ascends_map (filter live rows) ∙ ascends_kept client_of live rows up,
-        All-map Readable entry_of (filter live rows) (All-filter live Writable rows w))
+    let few = few_kept client_of live rows in (
+      omega (arith, length-map (filter live rows) entry_of, few, l),
+      ascends_map (filter live rows) ∙ ascends_kept client_of live rows up,
+      All-map Readable entry_of (filter live rows) (All-filter live Writable rows w),
+    )
 
 rows_out : (rows : List Record) → row_out (λ r. presence_entry_out (entry_of r)) rows ≡ row_out presence_entry_out (map entry_of rows)
 rows_out [] = refl

@@ -1,6 +1,5 @@
 -- What one message does, whatever the time is.
-use Rattle.std.proofs.Common.{◌≡◌, ℕ, ◌+◌, ◌-◌, ◌≤◌, ◌<◌, Bool, true, false, cond, leb, ◌&&◌, List, [], ◌∷◌, ◌++◌, map, filter, length, is_ok, Ok, Err, Result, sym, refl, ap, ◌∙◌, subst, arith}
-use Rattle.std.specs.Result.{result_and}
+use Rattle.std.proofs.Common.{◌≡◌, ℕ, ◌≤◌, Bool, true, false, cond, leb, ◌&&◌, List, [], map, filter, length, is_ok, Ok, Err, Result, refl, ap, arith}
 use Rattle.std.proofs.lemmas.Bool.{leb-true}
 use Rattle.encoding.specs.declared.fault.WireFault.{WireFault}
 use Rattle.encoding.specs.Writing.{Row}
@@ -10,13 +9,13 @@ use Rattle.message.specs.Message.{Said, step1, step2, update, awareness, denied,
 use Rattle.message.specs.Presence.{presence}
 use Rattle.message.specs.Writing.{message_out, awareness as told_awareness, step2 as told_step2}
 use Rattle.awareness.specs.declared.fault.AwarenessFault.{AwarenessFault}
-use Rattle.awareness.specs.Calls.{Settled, applied}
+use Rattle.awareness.specs.Calls.{applied}
 use Rattle.awareness.specs.Record.{entry_of, live}
 use Rattle.document.specs.Kind.{Kind}
 use Rattle.calls.specs.declared.fault.Fault.{Fault}
 use Rattle.calls.specs.declared.fault.Fault.TheVariants.{Buffer, Policy}
 use Rattle.calls.specs.declared.fault.PolicyFault.TheVariants.{PermissionDenied, Unsupported}
-use Rattle.calls.specs.Handling.{Hub, Step, judged, fits, replied, asked, queried, settled, of_presence, one}
+use Rattle.calls.specs.Handling.{Hub, judged, fits, replied, asked, of_presence, one}
 
 -- whether a message reads the clock where it is accepted
 abbrev pub timely : Said → Bool

@@ -1,21 +1,23 @@
 -- Replies in a buffer: bytes that stand one after another.
-use Rattle.std.proofs.Common.{◌≡◌, ℕ, ◌+◌, ◌-◌, ◌^◌, ◌≤◌, ◌<◌, Bool, true, false, cond, leb, ltb, min, List, [], ◌∷◌, ◌++◌, length, take, drop, Ok, Err, Result, sym, refl, ap, ◌∙◌, subst, append_assoc, arith, length-append, length-take, length-drop}
-use Rattle.std.specs.Result.{result_and}
+use Rattle.std.proofs.Common.{◌≡◌, ℕ, ◌+◌, ◌-◌, ◌^◌, ◌≤◌, ◌<◌, false, cond, List, [], ◌∷◌, ◌++◌, length, take, drop, Ok, Err, Result, sym, refl, ap, ◌∙◌, append_assoc, arith, length-append, length-take, length-drop}
 use Rattle.std.proofs.Math.Seq.{take-append_seam, drop-append-add}
 use Rattle.std.proofs.lemmas.List.{drop-drop, take-append-drop, drop_all, take_all, append-nil}
-use Rattle.std.proofs.lemmas.Bool.{cond-true, cond-false, le-leb, lt-leb, lt-ltb, le-ltb}
+use Rattle.std.proofs.lemmas.Bool.{le-leb, lt-ltb}
 use borrow.Rule.Slice.PartMut.{put_mid, mid_of}
 use Rattle.encoding.specs.declared.fault.WireFault.{WireFault}
 use Rattle.encoding.specs.declared.write.WriteFault.TheVariants.{Short}
 use Rattle.encoding.specs.declared.sink.BufferTooShort.{BufferTooShort}
-use Rattle.encoding.specs.TwoSinks.{stood, Filled}
+use Rattle.encoding.specs.declared.sink.Counter.{Counter}
+use Rattle.encoding.specs.declared.write.WriteFault.{WriteFault}
+use Rattle.calls.specs.Refusals.{Put, sent}
+use Rattle.law.specs.Words.{both}
+use Rattle.encoding.specs.TwoSinks.{stood, Filled, room_of_counter, Counts}
 use Rattle.encoding.proofs.Fillings.{length_stood}
 use Rattle.state_vector.specs.declared.vector.VectorEntry.{VectorEntry}
 use Rattle.document.specs.Kind.{Kind}
 use Rattle.calls.specs.Handling.{Hub, asked, fits, replied}
-use Rattle.encoding.specs.Writing.{Row, shortest, packed, buffer_out}
-use Rattle.message.specs.Writing.{step2, led, message_out}
-use Rattle.calls.specs.declared.fault.Fault.{Fault}
+use Rattle.encoding.specs.Writing.{Row, shortest, packed, Sent}
+use Rattle.message.specs.Writing.{step2, led, message_out, Written}
 use Rattle.calls.specs.declared.fault.Fault.TheVariants.{Buffer}
 
 -- bytes that stand right after others are all of them
@@ -27,8 +29,8 @@ stood_then old xs ys at l =
     let all : stood old at xs ≡ (p ++ xs) ++ d = sym (append_assoc p xs d) in
     let front : take (at + length xs) (stood old at xs) ≡ p ++ xs = ap (take (at + length xs)) all ∙ ap (λ n. take n ((p ++ xs) ++ d)) (sym long) ∙ take-append_seam (p ++ xs) d in
     let back : drop (at + length xs + length ys) (stood old at xs) ≡ drop (at + length (xs ++ ys)) old =
-        ap (drop (at + length xs + length ys)) all ∙ ap (λ n. drop (n + length ys) ((p ++ xs) ++ d)) (sym long) ∙ drop-append-add (p ++ xs) d (length ys)
-        ∙ drop-drop (length ys) (at + length xs) old ∙ ap (λ n. drop n old) (omega (arith, length-append xs ys)) in
+    ap (drop (at + length xs + length ys)) all ∙ ap (λ n. drop (n + length ys) ((p ++ xs) ++ d)) (sym long) ∙ drop-append-add (p ++ xs) d (length ys)
+    ∙ drop-drop (length ys) (at + length xs) old ∙ ap (λ n. drop n old) (omega (arith, length-append xs ys)) in
     ap (λ f. f ++ (ys ++ drop (at + length xs + length ys) (stood old at xs))) front ∙ ap (λ b. (p ++ xs) ++ (ys ++ b)) back
     ∙ append_assoc p xs (ys ++ drop (at + length (xs ++ ys)) old) ∙ ap (λ q. p ++ q) (sym (append_assoc xs ys (drop (at + length (xs ++ ys)) old)))
 
@@ -78,3 +80,26 @@ filled_ok old new bs at n (Err e) f is = cc
 -- a part that reaches to the end is what is left from there
 pub mid_to_end : (k : ℕ) (xs : List ℕ) → mid_of k (length xs - k) xs ≡ drop k xs
 mid_to_end k xs = take_all (length xs - k) (drop k xs) (omega (arith, length-drop k xs))
+
+abbrev row_length : Row → ℕ
+row_length (Ok bs) = length bs
+row_length (Err f) = 0
+
+-- a row that a counter took is no longer than what it may take
+sent_short : (row : Row) (limit : ℕ) (t : Counter) (bs : List ℕ) → row ≡ Ok bs → Sent room_of_counter Counts (record { count = 0; limit = limit }) row (Ok tt) t → length bs ≤ limit
+sent_short (Ok cs) limit t bs e s = let l : length cs ≡ length bs = ap row_length e in omega (arith, s.0, l)
+sent_short (Err f) limit t bs e s = cc
+
+-- two messages, one written right after the other
+pub both_put : (old one two : List ℕ) (first second : Row) (n m : ℕ) (t : Counter) → Written old 0 first (Ok n) one → Written one n second (Ok m) two → Sent room_of_counter Counts (record { count = 0; limit = length old }) first (Ok tt) t → Put old (sent (both first second)) (Ok (n + m)) two
+both_put old one two (Ok a) (Ok b) n m t w v s =
+    let l = sent_short (Ok a) (length old) t a refl s in (
+      omega (arith, w.0, v.0, length-append a b),
+      v.1 ∙ ap (λ o. stood o n b) w.1 ∙ ap (λ i. stood (stood old 0 a) i b) (omega (arith, w.0)) ∙ stood_then old a b 0 (omega arith),
+    )
+both_put old one two (Ok a) (Err f) n m t w v s = absurd (never v.0) where
+  never : ◌≡◌ {A = Result ℕ WriteFault} (Ok m) (Err f) → ⊥
+  never z = cc
+both_put old one two (Err f) r n m t w v s = absurd (never w.0) where
+  never : ◌≡◌ {A = Result ℕ WriteFault} (Ok n) (Err f) → ⊥
+  never z = cc

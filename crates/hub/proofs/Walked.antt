@@ -1,14 +1,13 @@
 -- Handling messages in a loop: what was done so far, and what is still to be done.
-use Rattle.std.proofs.Common.{◌≡◌, ℕ, suc, ◌+◌, ◌-◌, ◌≤◌, ◌<◌, Bool, true, false, cond, eqb, ◌&&◌, List, [], ◌∷◌, ◌++◌, length, is_ok, Ok, Err, Result, sym, refl, ap, ◌∙◌, subst, append_assoc, arith, length-append}
+use Rattle.std.proofs.Common.{◌≡◌, ℕ, suc, ◌+◌, ◌-◌, ◌≤◌, Bool, true, false, cond, eqb, ◌&&◌, List, [], ◌∷◌, ◌++◌, length, is_ok, Ok, Err, Result, sym, refl, ap, ◌∙◌, subst, append_assoc, arith, length-append}
 use Rattle.std.specs.Result.{result_and}
-use Rattle.std.proofs.lemmas.List.{append-nil, nil_from_length}
+use Rattle.std.proofs.lemmas.List.{nil_from_length}
 use Rattle.encoding.specs.declared.fault.WireFault.{WireFault}
 use Rattle.encoding.specs.declared.fault.WireFault.TheVariants.{InvalidVarInt, EndOfBuffer, UnexpectedValue, InvalidClientId, TooManyEntries, TextTooLong}
 use Rattle.encoding.specs.Fault.{wire_number}
 use Rattle.encoding.specs.TwoSinks.{stood}
 use Rattle.encoding.proofs.Fillings.{length_stood}
-use Rattle.message.specs.Message.{Said, step1, step2, update, awareness, denied, granted, query, custom, message}
-use Rattle.message.specs.Messages.Ending.{ended as end_ended, cut as end_cut, refused as end_refused}
+use Rattle.message.specs.Message.{Said, message}
 use Rattle.message.proofs.Contents.{message_shorter}
 use Rattle.awareness.specs.Calls.{ReadIf}
 use Rattle.document.specs.Kind.{Kind}
@@ -16,7 +15,7 @@ use Rattle.calls.specs.declared.answer.Handled.{Handled as Done}
 use Rattle.calls.specs.declared.answer.Refusal.{Refusal}
 use Rattle.calls.specs.declared.fault.Fault.{Fault}
 use Rattle.calls.specs.declared.fault.Fault.TheVariants.{Wire}
-use Rattle.calls.specs.Handling.{Hub, Step, Handling, Sofar, Reads, one, handle, onward, at_end, next_reading, after_reading}
+use Rattle.calls.specs.Handling.{Step, Handling, Sofar, Reads, one, handle, onward, next_reading, after_reading}
 use Rattle.hub.specs.Steps.{State, Stepped, Handles}
 use Rattle.hub.proofs.Replies.{stood_then, stood_none}
 use Rattle.hub.proofs.Onemore.{timely, reads_is, reply_same, reply_room, reply_none, one_same}

@@ -1,31 +1,24 @@
 -- Messages handled one after another: what is still to be done comes to what all of it comes to.
-use Rattle.std.proofs.Common.{◌≡◌, ℕ, zero, suc, ◌+◌, ◌-◌, ◌≤◌, ◌<◌, Bool, true, false, cond, eqb, List, [], ◌∷◌, ◌++◌, length, is_ok, Ok, Err, Result, sym, refl, ap, ◌∙◌, subst, append_assoc, arith, length-append}
-use Rattle.std.specs.Result.{result_and}
-use Rattle.std.proofs.lemmas.List.{append-nil}
-use Rattle.std.proofs.lemmas.Bool.{eq-eqb, ne_eqb, cond-true, cond-false, true≢false}
+use Rattle.std.proofs.Common.{◌≡◌, ℕ, ◌+◌, ◌-◌, ◌<◌, Bool, false, eqb, List, [], ◌∷◌, length, Ok, Err, Result, sym, refl, ap, ◌∙◌, arith}
+use Rattle.std.proofs.lemmas.Bool.{ne_eqb, cond-false}
 use Rattle.encoding.specs.declared.fault.WireFault.{WireFault}
 use Rattle.encoding.specs.declared.fault.WireFault.TheVariants.{EndOfBuffer}
 use Rattle.encoding.specs.Entries.{verdict}
 use Rattle.encoding.specs.Fault.{wire_number}
 use Rattle.encoding.specs.Reading.{Reading}
-use Rattle.encoding.specs.TwoSinks.{stood}
-use Rattle.encoding.proofs.Fillings.{length_stood}
 use Rattle.state_vector.specs.declared.vector.VectorEntry.{VectorEntry}
-use Rattle.state_vector.specs.Vector.{vector, vector_entries, tabled_after}
+use Rattle.state_vector.specs.Vector.{vector_entries, tabled_after}
 use Rattle.message.specs.Message.{Said, step1, step2, update, awareness, denied, granted, query, custom, message, contents}
-use Rattle.message.specs.Messages.{Next, whole, ended, cut, refused, next, found, judged, Ending, Messages, messages, messages_in, onward as row_onward}
+use Rattle.message.specs.Messages.{ended, cut, refused, next, found, judged, Messages, messages_in, onward as row_onward}
 use Rattle.message.specs.Messages.Ending.{ended as end_ended, cut as end_cut, refused as end_refused}
 use Rattle.message.specs.Presence.{Entry, presence}
 use Rattle.message.specs.Reader.{row_from}
-use Rattle.message.proofs.Contents.{next_shorter, message_shorter}
+use Rattle.message.proofs.Contents.{message_shorter}
 use Rattle.message.proofs.Rows.{row_start, row_whole}
 use Rattle.document.specs.Kind.{Kind}
-use Rattle.calls.specs.declared.fault.Fault.{Fault}
 use Rattle.calls.specs.declared.fault.Fault.TheVariants.{Wire}
 use Rattle.awareness.specs.Calls.{applied}
-use Rattle.calls.specs.Handling.{Hub, asked, settled, Step, Handling, Sofar, Reads, one, each, handle, onward, at_end, next_reading, after_reading}
-use Rattle.hub.specs.Steps.{State, Stepped, Handles}
-use Rattle.hub.proofs.Replies.{stood_then, stood_none}
+use Rattle.calls.specs.Handling.{Hub, asked, settled, Step, Handling, Sofar, one, each, handle, onward, at_end, next_reading}
 
 same_fault : (g f : WireFault) → ◌≡◌ {A = Result (Unit {0}) WireFault} (Err g) (Err f) → g ≡ f
 same_fault g f e = cc

@@ -2,7 +2,7 @@
 --   hub_of    what a hub means, by its records and its host's document
 --   Stepped   what one message does
 --   Handled   what handling bytes does
-use Rattle.std.specs.Prelude.{◌≡◌, ℕ, ◌+◌, ◌-◌, Bool, false, List, [], ◌++◌, length, Ok, Err, Result}
+use Rattle.std.specs.Prelude.{◌≡◌, ℕ, ◌-◌, Bool, false, List, [], ◌++◌, length, Ok, Err, Result}
 use Rattle.encoding.specs.declared.fault.WireFault.{WireFault}
 use Rattle.encoding.specs.Fields.{client_id}
 use Rattle.std.specs.Result.{result_and}

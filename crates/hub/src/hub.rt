@@ -6,6 +6,7 @@ ghost use Rattle.message.specs.Message.{Said, means};
 ghost use Rattle.message.specs.Presence.{presence};
 ghost use Rattle.awareness.specs.Calls.{applied, ReadIf};
 ghost use Rattle.calls.specs.Handling.{asked, queried, settled, handle, one};
+ghost use Rattle.law.specs.Law.{Law};
 ghost use Rattle.hub.specs.Lawful.{Keeps, HandleTold};
 ghost use Rattle.hub.specs.Steps.{fresh, hub_of, Replied, Stepped, Handles};
 
@@ -38,6 +39,7 @@ impl<H: DocumentHost, C: Clock + Drop, P: Policy + Drop> Hub<H, C, P> {
     // A fresh hub: an empty table, and a host with the empty document.
     pub fn new(own: u64, clock: C, policy: P) -> Result<Hub<H, C, P>, Fault>
         ensures fresh { result_map_both (λ h. hub_of H.kind h.presence (H.document h.host)) (λ f. f) result ≡ fresh H.kind own }
+        ensures law { IfOk result (λ h. Law H.kind H.LIMIT (P.Policy.accepts h.policy) own [] (hub_of H.kind h.presence (H.document h.host))) }
         ensures clock { IfOk result (λ h. h.clock ≡ clock) }
         ensures policy { IfOk result (λ h. h.policy ≡ policy) }
     {

@@ -1,5 +1,5 @@
 // The calls of a hub that come to its records, and those that look at them.
-ghost use Rattle.std.specs.Prelude.{◌≡◌, ℕ, ◌&&◌, is_none, is_ok, Ok};
+ghost use Rattle.std.specs.Prelude.{◌≡◌, ℕ, ◌&&◌, length, is_none, is_ok, Ok};
 ghost use Rattle.std.specs.Option.{option_copied};
 ghost use Rattle.std.specs.Result.{result_and, result_map_both};
 ghost use Rattle.encoding.specs.Fields.{client_id};
@@ -10,7 +10,7 @@ ghost use Rattle.awareness.specs.Record.{held_of};
 ghost use Rattle.awareness.specs.Summaries.{enough, lengths_of, Listed};
 ghost use Rattle.calls.specs.Refusals.{asked_of, lifted, row_of, Put};
 ghost use Rattle.law.specs.Words.{Call};
-ghost use Rattle.hub.specs.Lawful.{Keeps, ToldAs, apply_answer, done_answer};
+ghost use Rattle.hub.specs.Lawful.{Keeps, ToldAs, apply_answer, done_answer, shown_answer, written_answer};
 ghost use Rattle.hub.specs.Steps.{hub_of};
 
 use crate::hub::Hub;
@@ -38,9 +38,10 @@ impl<H: DocumentHost, C: Clock, P: Policy> Hub<H, C, P> {
         ensures host { self.new.host ≡ self.old.host }
         ensures policy { self.new.policy ≡ self.old.policy }
     {
-        Ok(self
-            .presence
-            .apply_update_summary(update, &mut self.clock, lists)?)
+        Ok(
+            self.presence
+                .apply_update_summary(update, &mut self.clock, lists)?,
+        )
     }
 
     // Sets the own state: a text, which is null where it spells null.
@@ -87,14 +88,16 @@ impl<H: DocumentHost, C: Clock, P: Policy> Hub<H, C, P> {
 
     // What is held of a client.
     pub fn show(&self, client: u64) -> Result<Option<&Record>, Refusal>
-        ensures { result_map_both option_copied (λ x. x) result ≡ asked_of (result_and (client_id client) (Ok (held_of client self.now.presence.rows))) }
+        ensures law { Keeps H.kind H.LIMIT (P.Policy.accepts self.now.policy) (P.Policy.accepts self.now.policy) (ToldAs C.Clock.next C.Clock.leads (Call.show client) (shown_answer (result_map_both option_copied (λ x. x) result)) self.now.clock self.now.clock) (hub_of H.kind self.now.presence (H.document self.now.host)) (hub_of H.kind self.now.presence (H.document self.now.host)) }
+        ensures shown { result_map_both option_copied (λ x. x) result ≡ asked_of (result_and (client_id client) (Ok (held_of client self.now.presence.rows))) }
     {
         Ok(self.presence.meta(client)?)
     }
 
     // The update of the clients given, ascending, each once, at the front of a buffer, and its length.
     pub fn list(&self, clients: &[u64], out: &mut [u8]) -> Result<usize, Refusal>
-        ensures { Put out.old (row_of (listing self.now.presence.rows clients.now)) result out.new }
+        ensures law { Keeps H.kind H.LIMIT (P.Policy.accepts self.now.policy) (P.Policy.accepts self.now.policy) (ToldAs C.Clock.next C.Clock.leads (Call.list clients.now (length out.old)) (written_answer result out.new) self.now.clock self.now.clock) (hub_of H.kind self.now.presence (H.document self.now.host)) (hub_of H.kind self.now.presence (H.document self.now.host)) }
+        ensures written { Put out.old (row_of (listing self.now.presence.rows clients.now)) result out.new }
     {
         Ok(self.presence.update_with_clients(clients, out)?)
     }

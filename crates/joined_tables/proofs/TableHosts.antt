@@ -7,11 +7,11 @@ use Rattle.encoding.specs.Writing.{counted_out}
 use Rattle.state_vector.specs.declared.vector.VectorEntry.{VectorEntry}
 use Rattle.state_vector.specs.Tables.{all_below, ascends}
 use Rattle.state_vector.specs.Vector.{client_of as vector_client}
+use Rattle.state_vector.proofs.Kept.{few_kept, pass_kept}
 use Rattle.joined_tables.specs.Joined.{gathered, sound}
 use Rattle.joined_tables.specs.TableKind.{Rows, Fair, table_with, news_for}
 use Rattle.joined_tables.specs.Whole.{wholly}
 use Rattle.joined_tables.proofs.Arriving.{table_is}
-use Rattle.joined_tables.proofs.Choosing.{few_kept, pass_kept}
 use Rattle.joined_tables.proofs.Lengths.{counted_long}
 use Rattle.joined_tables.proofs.Mapping.{ascends_seen, below_seen}
 use Rattle.joined_tables.proofs.Steps.{gathered_few}

@@ -13,6 +13,7 @@ use Rattle.state_vector.specs.declared.vector.VectorEntry.{VectorEntry}
 use Rattle.state_vector.specs.Tables.{held}
 use Rattle.state_vector.specs.Vector.{clock_in, clock_of}
 use Rattle.state_vector.specs.Vector.{client_of as vector_client}
+use Rattle.state_vector.proofs.Kept.{few_kept, pass_kept}
 use Rattle.state_vector.proofs.Keys.{held_key}
 use Rattle.document.specs.declared.fault.DocumentFault.TheVariants.{TooLarge}
 use Rattle.document.specs.Kind.{Kind, Brings, Lawful}
@@ -21,7 +22,7 @@ use Rattle.joined_tables.specs.Joined.{Covers, none, gather, gathered}
 use Rattle.joined_tables.specs.TableKind.{Rows, Table, rows_in, table_of, news_for, table_kind, clock_held, Fair}
 use Rattle.joined_tables.specs.Whole.{wholly}
 use Rattle.joined_tables.proofs.Arriving.{gather_joins}
-use Rattle.joined_tables.proofs.Choosing.{choices_bring, few_kept, pass_kept}
+use Rattle.joined_tables.proofs.Choosing.{choices_bring}
 use Rattle.joined_tables.proofs.Gathering.{joins_lawful, up, pass}
 use Rattle.joined_tables.proofs.Mapping.{held_passes, below_seen, ascends_seen, held_seen}
 use Rattle.joined_tables.proofs.Wholes.{whole_is}

@@ -1,4 +1,5 @@
 pub mod Entering
+pub mod Kept
 pub mod Keys
 pub mod Lookups
 pub mod Offering

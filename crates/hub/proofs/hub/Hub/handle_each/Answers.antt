@@ -1,10 +1,7 @@
-use Rattle.std.proofs.Common.{rules, ◌≡◌, ℕ, ◌≤◌, ◌<◌, length, Ok, Err, refl, sym, ap, ◌∙◌, subst, arith}
-use Rattle.encoding.specs.declared.fault.WireFault.TheVariants.{EndOfBuffer}
-use Rattle.encoding.specs.Fault.{wire_number}
-use Rattle.message.specs.Message.{Said, means, message}
+use Rattle.std.proofs.Common.{rules, ◌≡◌, length, Ok, Err, refl, ap, ◌∙◌, arith}
+use Rattle.message.specs.Message.{means, message}
 use Rattle.message.proofs.Contents.{message_shorter}
-use Rattle.hub.specs.Steps.{Handles}
-use Rattle.hub.proofs.Walked.{Walked, walked_start, walked_end, walked_cut, walked_stopped, handles_as, walked_on, walked_off}
+use Rattle.hub.proofs.Walked.{walked_start, walked_end, walked_stopped, handles_as, walked_on, walked_off}
 use Rattle.hub.proofs.hub.Hub.handle_each.Goals as goal
 
 pub loop-rest-init : goal.loop-rest-init
@@ -22,7 +19,7 @@ returns-in-Err-step-clause-handles g c =
     let no : c.step.result ≡ Err c.in-Err-step.fault = search rules in
     handles_as g.C.Clock.next g.C.Clock.leads g.H.DocumentHost.kind g.H.DocumentHost.LIMIT (g.P.Policy.accepts c.args.self.now.policy) c.args.bytes.now _ _ _ (Err c.refused.result) (ap Err c.refused.ensures)
     (walked_off g.C.Clock.next g.C.Clock.leads g.H.DocumentHost.kind g.H.DocumentHost.LIMIT (g.P.Policy.accepts c.args.self.now.policy) c.args.bytes.now _ c.loop-rest.done c.loop-rest.rest.now _ c.loop-rest.invariant.0
-      (means c.in-Ok.read.0) c.in-Ok.read.1.now first (g.P.Policy.accepts c.loop-rest.self.policy) (c.loop-rest.invariant.1 (means c.in-Ok.read.0)) c.step.result _ c.step.ensures.stepped c.in-Err-step.fault no)
+    (means c.in-Ok.read.0) c.in-Ok.read.1.now first (g.P.Policy.accepts c.loop-rest.self.policy) (c.loop-rest.invariant.1 (means c.in-Ok.read.0)) c.step.result _ c.step.ensures.stepped c.in-Err-step.fault no)
 
 pub overflow_sub-done : goal.overflow_sub-done
 overflow_sub-done g c =
@@ -39,10 +36,11 @@ loop-rest-smaller g c =
 pub loop-rest-preserved : goal.loop-rest-preserved
 loop-rest-preserved g c =
     let first : message c.loop-rest.rest.now ≡ Ok (means c.in-Ok.read.0, c.in-Ok.read.1.now) = search rules in
-    let ok : c.step.result ≡ Ok c.in-Ok-step.reply = search rules in
-    (walked_on g.C.Clock.next g.C.Clock.leads g.H.DocumentHost.kind g.H.DocumentHost.LIMIT (g.P.Policy.accepts c.args.self.now.policy) c.args.bytes.now _ c.loop-rest.done c.loop-rest.rest.now _ c.loop-rest.invariant.0
-      (means c.in-Ok.read.0) c.in-Ok.read.1.now first (g.P.Policy.accepts c.loop-rest.self.policy) (c.loop-rest.invariant.1 (means c.in-Ok.read.0)) c.step.result _ c.step.ensures.stepped c.in-Ok-step.reply ok,
-        λ m. c.step.ensures.policy m ∙ c.loop-rest.invariant.1 m)
+    let ok : c.step.result ≡ Ok c.in-Ok-step.reply = search rules in (
+      walked_on g.C.Clock.next g.C.Clock.leads g.H.DocumentHost.kind g.H.DocumentHost.LIMIT (g.P.Policy.accepts c.args.self.now.policy) c.args.bytes.now _ c.loop-rest.done c.loop-rest.rest.now _ c.loop-rest.invariant.0
+          (means c.in-Ok.read.0) c.in-Ok.read.1.now first (g.P.Policy.accepts c.loop-rest.self.policy) (c.loop-rest.invariant.1 (means c.in-Ok.read.0)) c.step.result _ c.step.ensures.stepped c.in-Ok-step.reply ok,
+      λ m. c.step.ensures.policy m ∙ c.loop-rest.invariant.1 m,
+    )
 
 pub returns-clause-handles : goal.returns-clause-handles
 returns-clause-handles g c =

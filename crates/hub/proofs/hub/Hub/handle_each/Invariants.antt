@@ -1,4 +1,4 @@
-use Rattle.std.proofs.Common.{◌≡◌, ℕ, length}
+use Rattle.std.proofs.Common.{◌≡◌, length}
 use Rattle.message.specs.Message.{Said}
 use Rattle.hub.specs.Steps.{hub_of}
 use Rattle.hub.proofs.Walked.{Walked}

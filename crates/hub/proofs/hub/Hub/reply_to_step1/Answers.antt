@@ -1,11 +1,11 @@
-use Rattle.std.proofs.Common.{rules, ◌≡◌, ℕ, ◌+◌, ◌-◌, ◌^◌, ◌<◌, ◌≤◌, Ok, length, sym, refl, ap, ◌∙◌, subst, arith, drop, [], ◌∷◌, length-append}
+use Rattle.std.proofs.Common.{rules, ◌≡◌, ◌+◌, ◌-◌, ◌^◌, ◌<◌, ◌≤◌, Ok, length, sym, refl, ap, ◌∙◌, subst, arith, drop, [], ◌∷◌, length-append}
 use Rattle.std.specs.Result.{result_and}
 use borrow.Rule.Slice.PartMut.{put_mid, mid_of}
 use Rattle.encoding.specs.TwoSinks.{stood}
 use Rattle.encoding.specs.Writing.{shortest, packed}
 use Rattle.state_vector.specs.Vector.{vector}
 use Rattle.calls.specs.Handling.{Step}
-use Rattle.hub.specs.Steps.{hub_of, Replied}
+use Rattle.hub.specs.Steps.{hub_of}
 use Rattle.hub.proofs.Replies.{step2_stands, asked_fits, filled_ok, mid_to_end}
 use Rattle.hub.proofs.hub.Hub.reply_to_step1.Goals as goal
 
@@ -29,6 +29,7 @@ returns g c =
     let three : c.update.new.out ≡ stood (drop (at + (2 + length items)) c.fill-2.new.out) 0 u = raw ∙ ap (λ d. stood (drop (at + (2 + d)) c.fill-2.new.out) 0 u) digits in
     let does = asked_fits k (length out - at) h c.in_ok-since.since (vector c.args.part.now) u v refl short (omega (arith, room, ap length size)) in
     let stands = step2_stands out u items c.fill.new.out c.fill-2.new.out c.update.new.out at size one two three room in
-    let long : 2 + c.len-head.result + c.update_len-len.result ≡ length (0 ∷ 1 ∷ packed u) = omega (arith, digits, many, ap length size, length-append (shortest (length u)) u) in
-    (ap Ok long ∙ sym (ap (λ (s : Step k). result_and s.verdict (Ok (length s.reply))) does),
-        subst (λ d. put_mid (at + (2 + d)) (length c.fill-2.new.out - (at + (2 + d))) c.fill-2.new.out c.update.new.out ≡ stood out at (0 ∷ 1 ∷ packed u)) (sym digits) stands ∙ sym (ap (λ (s : Step k). stood out at s.reply) does))
+    let long : 2 + c.len-head.result + c.update_len-len.result ≡ length (0 ∷ 1 ∷ packed u) = omega (arith, digits, many, ap length size, length-append (shortest (length u)) u) in (
+      ap Ok long ∙ sym (ap (λ (s : Step k). result_and s.verdict (Ok (length s.reply))) does),
+      subst (λ d. put_mid (at + (2 + d)) (length c.fill-2.new.out - (at + (2 + d))) c.fill-2.new.out c.update.new.out ≡ stood out at (0 ∷ 1 ∷ packed u)) (sym digits) stands ∙ sym (ap (λ (s : Step k). stood out at s.reply) does),
+    )

@@ -1,8 +1,8 @@
-use Rattle.std.proofs.Common.{◌≡◌, true, List, length, ◌≤◌, sym, ap, ◌∙◌, subst, map, filter}
+use Rattle.std.proofs.Common.{◌≡◌, true, List, length, ◌≤◌, subst, map, filter}
 use Rattle.std.specs.List.{All}
 use Rattle.state_vector.specs.Tables.{ascends}
 use Rattle.message.specs.Writing.{Readable}
-use Rattle.awareness.specs.Record.{Record, client_of, entry_of, live, Writable}
+use Rattle.awareness.specs.Record.{Record, entry_of, live}
 use Rattle.hub.proofs.LiveOnes.{live_sound}
 use Rattle.hub.proofs.live.LiveRecordsOutgoing.check.Goals as goal
 
