@@ -1,15 +1,15 @@
 -- What messages leave alone that do not concern it.
-use Rattle.std.proofs.Common.{◌≡◌, ℕ, ◌+◌, ◌-◌, Bool, true, false, not, ◌&&◌, List, [], ◌∷◌, length, Ok, Err, Result, sym, refl, ap, ◌∙◌, subst}
+use Rattle.std.proofs.Common.{◌≡◌, ℕ, ◌+◌, ◌-◌, Bool, true, false, not, List, length, Ok, Err, Result, sym, refl, ap, ◌∙◌, subst}
 use Rattle.std.specs.Result.{result_and}
-use Rattle.std.proofs.lemmas.Bool.{cases_Bool, and_parts, true≢false}
+use Rattle.std.proofs.lemmas.Bool.{and_parts, true≢false}
 use Rattle.encoding.specs.declared.fault.WireFault.{WireFault}
 use Rattle.message.specs.Message.{Said, step1, step2, update, awareness, denied, granted, query, custom, message, contents}
-use Rattle.message.specs.Messages.{Messages, Next, whole, judged, next, messages}
+use Rattle.message.specs.Messages.{Messages, judged, messages}
 use Rattle.message.specs.Reader.{row_from}
 use Rattle.message.proofs.Rows.{row_start, row_whole}
 use Rattle.document.specs.Kind.{Kind}
 use Rattle.calls.specs.declared.fault.Fault.{Fault}
-use Rattle.calls.specs.Handling.{Hub, Step, one}
+use Rattle.calls.specs.Handling.{Step}
 use Rattle.hub.specs.Steps.{State, Stepped, updates, for_policy, none_of}
 use Rattle.hub.proofs.Walks.{holds_not, next_held}
 
