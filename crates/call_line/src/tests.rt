@@ -9,20 +9,31 @@ fn lines_are_calls(rt: HostRuntime) {
     assert!(rt; matches!(read_call(b" \tclock  step 5\r\n"), Ok(Call::ClockStep(5))));
     assert!(rt; matches!(read_call(b"document slot"), Ok(Call::Host(Board::Slot))));
     assert!(rt; matches!(read_call(b"document"), Ok(Call::Document)));
+}
+
+// By a guard, since a pattern of bytes compares them one by one.
+#[test]
+fn what_follows_a_name_is_kept(rt: HostRuntime) {
     assert!(rt;
         matches!(
             read_call(b"set  \"in and out\" "),
-            Ok(Call::Set(b"\"in and out\""))
+            Ok(Call::Set(text)) if text == b"\"in and out\"".as_slice()
         )
     );
     assert!(rt;
         matches!(
             read_call(b"write custom 200 01 02"),
-            Ok(Call::Write(MessageWords::Custom(200, b"01 02")))
+            Ok(Call::Write(MessageWords::Custom(200, bytes))) if bytes == b"01 02".as_slice()
         )
     );
-    assert!(rt; matches!(read_call(b"# own 7"), Ok(Call::Nothing)));
-    assert!(rt; matches!(read_call(b""), Ok(Call::Nothing)));
+}
+
+#[test]
+fn comments_and_blanks_ask_nothing(rt: HostRuntime) {
+    let table: [&[u8]; 3] = [b"# own 7", b"", b" \t\n"];
+    for line in table {
+        assert!(rt; matches!(read_call(line), Ok(Call::Nothing)));
+    }
 }
 
 #[test]
