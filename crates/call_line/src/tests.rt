@@ -21,19 +21,23 @@ fn lines_are_calls(rt: HostRuntime) {
             Ok(Call::Write(MessageWords::Custom(200, b"01 02")))
         )
     );
+    assert!(rt; matches!(read_call(b"step1"), Ok(Call::Step1)));
+    assert!(rt; matches!(read_call(b" start "), Ok(Call::Start)));
     assert!(rt; matches!(read_call(b"# own 7"), Ok(Call::Nothing)));
     assert!(rt; matches!(read_call(b""), Ok(Call::Nothing)));
 }
 
 #[test]
 fn other_lines_are_named(rt: HostRuntime) {
-    let table: [(&[u8], LineFault); 6] = [
+    let table: [(&[u8], LineFault); 8] = [
         (b"Own 7", LineFault::UnknownCall),
         (b"own 7 8", LineFault::NotANumber),
         (b"own 18446744073709551616", LineFault::NotANumber),
         (b"write custom 256 00", LineFault::NotANumber),
         (b"policy none", LineFault::UnknownWord),
         (b"clean it", LineFault::WordsLeft),
+        (b"step1 5:300", LineFault::WordsLeft),
+        (b"step 1", LineFault::UnknownCall),
     ];
     for (line, fault) in table {
         assert_eq!(rt; read_call(line).err(), Some(fault));
