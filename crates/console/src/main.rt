@@ -13,7 +13,7 @@ use hub::hub::Hub;
 use std::env;
 use std::fs::File;
 use std::io::{BufRead, BufReader};
-use std::rt::Env;
+use std::rt::{Env, Files};
 
 mod asked;
 mod choice;
@@ -26,34 +26,41 @@ mod session;
 #[cfg(test)]
 mod tests;
 
-// A file, or standard input, and how its lines are taken.
-#[derive(Drop)]
-enum Source {
+// How the lines of a file are taken.
+#[derive(Clone, Copy, PartialEq, Eq)]
+enum Way {
     // one after another
-    Lines(Option<String>),
+    Lines,
     // all in one run
-    Run(Option<String>),
+    Run,
 }
 
-// The files that are asked for, in turn; the last may be standard input, which has no name.
+// A file, or standard input, which has no name, and how its lines are taken.
+#[derive(Drop)]
+struct Source {
+    file: Option<String>,
+    way: Way,
+}
+
+// The files that are asked for, in turn, or standard input.
 fn read_args(rt: &(impl Env + AllocGlobal)) -> anyhow::Result<Vec<Source>> {
     let mut sources = Vec::new(rt.alloc());
-    let mut run = false;
+    let mut way = Way::Lines;
     for arg in env::args(rt)?.skip(1) {
         match arg.as_str() {
-            "--run" if !run => run = true,
+            "--run" if way == Way::Lines => way = Way::Run,
             text if text.starts_with('-') => bail!("usage: console [--run] [FILE] .."),
-            _ if run => {
-                sources.push(Source::Run(Some(arg)))?;
-                run = false;
+            _ => {
+                sources.push(Source {
+                    file: Some(arg),
+                    way,
+                })?;
+                way = Way::Lines;
             }
-            _ => sources.push(Source::Lines(Some(arg)))?,
         }
     }
-    if run {
-        sources.push(Source::Run(None))?;
-    } else if sources.is_empty() {
-        sources.push(Source::Lines(None))?;
+    if sources.is_empty() || way == Way::Run {
+        sources.push(Source { file: None, way })?;
     }
     Ok(sources)
 }
@@ -133,20 +140,33 @@ fn drive<R: BufRead + Drop>(rt: &(impl Print + AllocGlobal), input: R) -> anyhow
     Ok(())
 }
 
-// Each file in turn: its lines are answered one by one, or all in one run.
+// Answers the lines of a source, one by one or all in one run.
+fn take(
+    rt: &(impl Files + Input + Print + AllocGlobal),
+    file: Option<&str>,
+    way: Way,
+) -> anyhow::Result<()> {
+    match (way, file) {
+        (Way::Lines, None) => drive(rt, rt.reader()),
+        (Way::Lines, Some(path)) => {
+            let file = File::open(rt, path)?;
+            drive(rt, BufReader::new(rt.alloc(), file)?)
+        }
+        (Way::Run, _) => {
+            let text = read_input(rt, file)?;
+            let report = run_script(rt.alloc(), text.as_slice())?;
+            Ok(print!(rt; "{report}")?)
+        }
+    }
+}
+
+// Each source in turn, up to one that cannot be taken, which is named.
 fn main(rt: HostRuntime) -> anyhow::Result<()> {
-    for source in read_args(&rt)? {
-        match source {
-            Source::Lines(None) => drive(&rt, rt.reader())?,
-            Source::Lines(Some(path)) => {
-                let file = File::open(&rt, path.as_str())?;
-                drive(&rt, BufReader::new(rt.alloc(), file)?)?;
-            }
-            Source::Run(file) => {
-                let text = read_input(&rt, file.as_deref())?;
-                let report = run_script(rt.alloc(), text.as_slice())?;
-                print!(rt; "{report}")?;
-            }
+    for Source { file, way } in read_args(&rt)? {
+        let file = file.as_deref();
+        if let Err(fault) = take(&rt, file, way) {
+            let name = file.unwrap_or("standard input");
+            bail!("{name}: {fault}");
         }
     }
     Ok(())
