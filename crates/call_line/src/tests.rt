@@ -37,14 +37,23 @@ fn comments_and_blanks_ask_nothing(rt: HostRuntime) {
 }
 
 #[test]
+fn step1_and_start_stand_alone(rt: HostRuntime) {
+    assert!(rt; matches!(read_call(b"step1"), Ok(Call::Step1)));
+    assert!(rt; matches!(read_call(b" start "), Ok(Call::Start)));
+    assert!(rt; read_call(b"step1 5").is_err());
+}
+
+#[test]
 fn other_lines_are_named(rt: HostRuntime) {
-    let table: [(&[u8], LineFault); 6] = [
+    let table: [(&[u8], LineFault); 8] = [
         (b"Own 7", LineFault::UnknownCall),
         (b"own 7 8", LineFault::NotANumber),
         (b"own 18446744073709551616", LineFault::NotANumber),
         (b"write custom 256 00", LineFault::NotANumber),
         (b"policy none", LineFault::UnknownWord),
         (b"clean it", LineFault::WordsLeft),
+        (b"step1 5:300", LineFault::WordsLeft),
+        (b"step 1", LineFault::UnknownCall),
     ];
     for (line, fault) in table {
         assert_eq!(rt; read_call(line).err(), Some(fault));

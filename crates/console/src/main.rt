@@ -1,37 +1,68 @@
-// A hub driven by lines: one call a line, each answered at once in words.
+// A hub driven by lines: one call a line, each answered at once in words, or all in one run.
 #![tactic(auto)]
 
-use crate::driven::{Driven, Setup, Ticking};
+use crate::choice::{Task, with_setup};
+use crate::driven::{Driven, Setup, Turned};
+use crate::script::{PLACES, ROOM, run_script};
 use crate::session::{Session, State};
 use anyhow::bail;
-use awareness::clock::{SetClock, StepClock};
-use boards::count_board::CountBoard;
-use boards::slot_board::SlotBoard;
-use call_line::call::{Board, Rules};
-use calls::policy::{DefaultPolicy, Policy, TagRanges};
+use calls::policy::Policy;
 use document::host::DocumentHost;
-use document::tally::Tally;
+use hexadecimal::input::read_input;
 use hub::hub::Hub;
 use std::env;
 use std::fs::File;
 use std::io::{BufRead, BufReader};
-use std::rt::Env;
+use std::rt::{Env, Files};
 
+mod asked;
+mod choice;
 mod driven;
 mod messages;
+mod places;
 mod report;
+mod script;
 mod session;
+#[cfg(test)]
+mod tests;
 
-// The file that is asked for, if any.
-fn read_args(rt: &(impl Env + AllocGlobal)) -> anyhow::Result<Option<String>> {
-    let mut file = None;
+// How the lines of a file are taken.
+#[derive(Clone, Copy, PartialEq, Eq)]
+enum Way {
+    // one after another
+    Lines,
+    // all in one run
+    Run,
+}
+
+// A file, or standard input, which has no name, and how its lines are taken.
+#[derive(Drop)]
+struct Source {
+    file: Option<String>,
+    way: Way,
+}
+
+// The files that are asked for, in turn, or standard input.
+fn read_args(rt: &(impl Env + AllocGlobal)) -> anyhow::Result<Vec<Source>> {
+    let mut sources = Vec::new(rt.alloc());
+    let mut way = Way::Lines;
     for arg in env::args(rt)?.skip(1) {
-        if file.is_some() || arg.as_str().starts_with('-') {
-            bail!("usage: console [FILE]");
+        match arg.as_str() {
+            "--run" if way == Way::Lines => way = Way::Run,
+            text if text.starts_with('-') => bail!("usage: console [--run] [FILE] .."),
+            _ => {
+                sources.push(Source {
+                    file: Some(arg),
+                    way,
+                })?;
+                way = Way::Lines;
+            }
         }
-        file = Some(arg);
     }
-    Ok(file)
+    if sources.is_empty() || way == Way::Run {
+        sources.push(Source { file: None, way })?;
+    }
+    Ok(sources)
 }
 
 // Lines that are read one after another, with how many there were.
@@ -67,68 +98,76 @@ fn work<D: Driven + Drop, R: BufRead>(
     Ok(None)
 }
 
-// A hub over a host and a policy, with the clock that is asked for.
-fn with_policy<H: DocumentHost + Drop, P: Policy + Drop, R: BufRead>(
-    rt: &(impl Print + AllocGlobal),
-    lines: &mut Numbered<R>,
-    policy: P,
+// Lines that a hub is to answer, whichever hub it is.
+struct Answering<'r, 'l, W, R> {
+    rt: &'r W,
+    lines: &'l mut Numbered<R>,
     state: State,
-) -> anyhow::Result<Option<State>> {
-    let own = state.setup.own;
-    match state.setup.clock {
-        Ticking::Set(reading) => {
-            let hub: Hub<Tally<H>, SetClock, P> = Hub::new(own, SetClock { reading }, policy)?;
-            work(rt, lines, hub, state)
-        }
-        Ticking::Step(reading) => {
-            let hub: Hub<Tally<H>, StepClock, P> = Hub::new(own, StepClock { reading }, policy)?;
-            work(rt, lines, hub, state)
-        }
+}
+
+impl<W: Print + AllocGlobal, R: BufRead> Task for Answering<'_, '_, W, R> {
+    type Outcome = Option<State>;
+
+    // Lets a fresh hub answer them.
+    fn with<H: DocumentHost + Drop, C: Turned + Drop, P: Policy + Drop>(
+        self,
+        clock: C,
+        policy: P,
+    ) -> anyhow::Result<Option<State>> {
+        let Answering { rt, lines, state } = self;
+        let hub: Hub<H, C, P> = Hub::new(state.setup.own, clock, policy)?;
+        work(rt, lines, hub, state)
     }
 }
 
-// A hub over a host, with the policy that is asked for.
-fn with_host<H: DocumentHost + Drop, R: BufRead>(
-    rt: &(impl Print + AllocGlobal),
-    lines: &mut Numbered<R>,
-    state: State,
-) -> anyhow::Result<Option<State>> {
-    match state.setup.rules {
-        Rules::Default => with_policy::<H, DefaultPolicy, R>(rt, lines, DefaultPolicy, state),
-        Rules::Ranges => with_policy::<H, TagRanges, R>(rt, lines, TagRanges::new(), state),
-    }
-}
-
-// Fresh hubs one after another, each until the next is asked for; the first is the one that ships, of client 1 and with its clock at 0.
+// Fresh hubs one after another, each until the next is asked for; the first is the one that ships.
 fn drive<R: BufRead + Drop>(rt: &(impl Print + AllocGlobal), input: R) -> anyhow::Result<()> {
     let mut lines = Numbered { input, number: 0 };
     let mut next = Some(State {
-        setup: Setup {
-            own: 1,
-            board: Board::Count,
-            rules: Rules::Ranges,
-            clock: Ticking::Set(0),
-        },
-        room: 1024,
-        places: 64,
+        setup: Setup::SHIPPED,
+        room: ROOM,
+        places: PLACES,
     });
     for _ in 0..u64::MAX {
         let Some(state) = next else { break };
-        next = match state.setup.board {
-            Board::Count => with_host::<CountBoard, R>(rt, &mut lines, state)?,
-            Board::Slot => with_host::<SlotBoard, R>(rt, &mut lines, state)?,
+        let answering = Answering {
+            rt,
+            lines: &mut lines,
+            state,
         };
+        next = with_setup(answering, state.setup)?;
     }
     Ok(())
 }
 
-// The lines of a file, or of standard input.
-fn main(rt: HostRuntime) -> anyhow::Result<()> {
-    match read_args(&rt)? {
-        Some(path) => {
-            let file = File::open(&rt, path.as_str())?;
-            drive(&rt, BufReader::new(rt.alloc(), file)?)
+// Answers the lines of a source, one by one or all in one run.
+fn take(
+    rt: &(impl Files + Input + Print + AllocGlobal),
+    file: Option<&str>,
+    way: Way,
+) -> anyhow::Result<()> {
+    match (way, file) {
+        (Way::Lines, None) => drive(rt, rt.reader()),
+        (Way::Lines, Some(path)) => {
+            let file = File::open(rt, path)?;
+            drive(rt, BufReader::new(rt.alloc(), file)?)
         }
-        None => drive(&rt, rt.reader()),
+        (Way::Run, _) => {
+            let text = read_input(rt, file)?;
+            let report = run_script(rt.alloc(), text.as_slice())?;
+            Ok(print!(rt; "{report}")?)
+        }
     }
+}
+
+// Each source in turn, up to one that cannot be taken, which is named.
+fn main(rt: HostRuntime) -> anyhow::Result<()> {
+    for Source { file, way } in read_args(&rt)? {
+        let file = file.as_deref();
+        if let Err(fault) = take(&rt, file, way) {
+            let name = file.unwrap_or("standard input");
+            bail!("{name}: {fault}");
+        }
+    }
+    Ok(())
 }
