@@ -13,9 +13,10 @@ use hub::hub::Hub;
 use hub::run::{Answer, run};
 use std::alloc::Global;
 
-// How much of room and places there is for each call, where a script does not say how much there is for all.
+// How many bytes of room there are for each call, where a script does not say how many there are for all.
 pub const ROOM: usize = 1024;
 
+// How many places each list has for each call, likewise.
 pub const PLACES: usize = 64;
 
 // A call, and the line that it stands in.
@@ -35,7 +36,7 @@ struct Script<'a> {
 }
 
 impl<'a> Script<'a> {
-    // The lines of a script, or why the first that can't stand there is none of one.
+    // Reads a script to its end; the first line that can't stand in one is told with its number.
     fn read(heap: Global, text: &'a [u8]) -> anyhow::Result<Script<'a>> {
         let mut script = Script {
             setup: Setup::SHIPPED,

@@ -4,6 +4,7 @@ use crate::driven::{Driven, Setup, Ticking};
 use crate::messages::write_words;
 use crate::places::{Places, size_of};
 use crate::report::Report;
+use anyhow::Context;
 use call_line::call::{Call, read_call};
 use product::fresh_hub;
 use std::alloc::Global;
@@ -106,9 +107,7 @@ impl<D: Driven> Session<D> {
 
     // A call of the hub.
     fn ask(&mut self, call: Call, report: &mut Report) -> anyhow::Result<()> {
-        let Some(asked) = Asked::read(self.heap, call)? else {
-            return Ok(());
-        };
+        let asked = Asked::read(self.heap, call)?.context("no call of a hub")?;
         let mut places = Places::new(self.heap, self.state.room, self.state.places)?;
         let (out, mut lists) = places.parts();
         let answer = self.hub.call(asked.call(), out, &mut lists);
