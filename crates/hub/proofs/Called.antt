@@ -25,7 +25,7 @@ use Rattle.message.specs.Messages.{Ending, ended, cut, refused as refused_at, me
 use Rattle.awareness.specs.Summaries.{over, lengths_of, Listed}
 use Rattle.law.specs.Answers.{length_told}
 use Rattle.law.specs.Words.{Lists, handle, handled}
-use Rattle.law.specs.Model.{handling}
+use Rattle.law.proofs.Steps.{made_handle}
 use Rattle.hub.specs.declared.run.Answer.{Answer}
 use Rattle.hub.specs.declared.run.Call.{Call}
 use Rattle.hub.specs.declared.run.Answer.TheVariants.{Handled as HandledSo}
@@ -92,7 +92,7 @@ module _ {C : Type 0} (next : C → ℕ) (leads : C → C → Type 0) (k : Kind)
         answer = ap (handled r) (sym (ap (take (length_told r)) h.stand ∙ ap (λ n. take n (h.replies ++ drop (0 + length h.replies) old.buffer)) replies_long ∙ take-append_seam h.replies (drop (0 + length h.replies) old.buffer)));
         readings = h.read;
       })
-      (record { later = 0; is = ap (handling k limit accepts) (h.does (0 ∷ [])) })
+      (made_handle k limit accepts old.hub bytes (length old.buffer) h.readings 0 r new.hub h.replies (h.does (0 ∷ [])))
 
 -- bytes that are written stand at the front, and nothing else is changed
 written_so : (row : Result (List ℕ) Fault) (r : Result ℕ Refusal) (old new : List ℕ) (lists : Lists) → Put old row r new → length new ≡ length old

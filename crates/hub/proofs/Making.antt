@@ -27,10 +27,10 @@ use Rattle.calls.specs.Refusals.{lifted, Put, asked_of, row_of, sent}
 use Rattle.calls.specs.Faults.{of_writing}
 use Rattle.calls.specs.declared.answer.Handled.{Handled}
 use Rattle.calls.specs.declared.answer.Refusal.{Refusal}
-use Rattle.calls.specs.Handling.{Hub, Reads, fits, next_reading, after_reading}
+use Rattle.calls.specs.Handling.{Hub, Reads, fits}
 use Rattle.law.specs.Words.{Told, Answer, Call, handle, handled, applied, done, written, refused, wrote, both}
-use Rattle.law.specs.Model.{Made, handling, perform, settled, removing, looked, readings_if, told_by, lists_of, vector_bytes, live_bytes, listing_fits, showed}
-use Rattle.law.proofs.Keeping.{one_call_more, same_verdicts_same_law}
+use Rattle.law.specs.Model.{Made, perform, removing, looked, readings_if, told_by, lists_of, vector_bytes, live_bytes, listing_fits, showed}
+use Rattle.law.proofs.Steps.{goes_on, made_handle, made_apply, made_set, made_removal, made_look}
 use Rattle.hub.specs.Lawful.{Keeps, HandleTold, ToldAs, apply_answer, done_answer, shown_answer, written_answer}
 use Rattle.hub.specs.Steps.{State, Handles}
 
@@ -41,7 +41,7 @@ module _ (k : Kind) (limit : ℕ) (lawful : Lawful k limit) (accepts also : Said
     told = t;
     tells = tells;
     made = made;
-    goes_on = λ id history law. same_verdicts_same_law k limit accepts also id (history ++ t ∷ []) new same (one_call_more k limit lawful accepts id history old t new law made);
+    goes_on = goes_on k limit lawful accepts also same old t new made;
   }
 
   module _ {C : Type 0} (next : C → ℕ) (leads : C → C → Type 0) where
@@ -49,7 +49,7 @@ module _ (k : Kind) (limit : ℕ) (lawful : Lawful k limit) (accepts also : Said
     pub handle_keeps : (bytes : List ℕ) (old new : State k C) (r : Result Handled Refusal) → Handles next leads k limit accepts bytes old new r → Keeps k limit accepts also (HandleTold next leads bytes old.buffer new.buffer old.clock new.clock r) old.hub new.hub
     handle_keeps bytes old new r h = keeps (HandleTold next leads bytes old.buffer new.buffer old.clock new.clock r) old.hub new.hub (record { call = handle bytes (length old.buffer); answer = handled r h.replies; readings = h.readings })
         (record { replies = h.replies; call = refl; answer = refl; stand = h.stand; readings = h.read })
-        (record { later = 0; is = ap (handling k limit accepts) (h.does (0 ∷ [])) })
+        (made_handle k limit accepts old.hub bytes (length old.buffer) h.readings 0 r new.hub h.replies (h.does (0 ∷ [])))
 
 -- readings that were taken, or not
 reads_if : {C : Type 0} (next : C → ℕ) (leads : C → C → Type 0) (k : Kind) (limit : ℕ) (accepts : Said → Bool) (b : Bool) (c d : C) → ReadIf leads b c d → Reads next leads c (readings_if k limit accepts b (next c)) d
@@ -76,19 +76,12 @@ module _ (k : Kind) (limit : ℕ) (lawful : Lawful k limit) (accepts : Said → 
     abbrev h : Hub k
     h = record { own = own; rows = rows; document = d }
 
-    abbrev given : Bool → List ℕ
-    given b = readings_if k limit accepts b (next clock) ++ next clock ∷ []
-
-    next_is : (b : Bool) → next_reading k limit accepts (given b) ≡ next clock
-    next_is true = refl
-    next_is false = refl
-
-    left_is : (b : Bool) → after_reading k limit accepts b (given b) ≡ next clock ∷ []
-    left_is true = refl
-    left_is false = refl
-
-    hub_is : (now : List Record) → then.own ≡ own → then.rows ≡ now → then.document ≡ d → record { own = own; rows = now; document = d } ≡ then
-    hub_is now a b c = ap (λ x. record { own = x; rows = now; document = d }) (sym a) ∙ ap (λ x. record { own = then.own; rows = x; document = d }) (sym b) ∙ ap (λ x. record { own = then.own; rows = then.rows; document = x }) (sym c)
+    -- a call that came to these records leaves this hub
+    left : (t : Told) (now : List Record) → then.own ≡ own → then.rows ≡ now → then.document ≡ d → Made k limit accepts h t (record { own = own; rows = now; document = d }) → Made k limit accepts h t then
+    left t now a b c made =
+        subst (λ x. Made k limit accepts h t x)
+        (ap (λ x. record { own = x; rows = now; document = d }) (sym a) ∙ ap (λ x. record { own = then.own; rows = x; document = d }) (sym b) ∙ ap (λ x. record { own = then.own; rows = then.rows; document = x }) (sym c))
+        made
 
     -- an apply
     pub apply_keeps : (bytes : List ℕ) (enough_so : Bool) (r : Result AwarenessUpdateSummary Refusal) (old new : ChangeLists)
@@ -103,12 +96,7 @@ module _ (k : Kind) (limit : ℕ) (lawful : Lawful k limit) (accepts : Said → 
         keeps k limit lawful accepts accepts (λ m. refl) (ToldAs next leads (Call.apply bytes enough_so) (apply_answer r new) clock after) h then
         (record { call = Call.apply bytes enough_so; answer = told_by s.answer (applied (lists_of s.changes)); readings = readings_if k limit accepts b (next clock) })
         (record { asked = refl; answered = told_lists s.answer s.changes r old new a l; readings = reads_if next leads k limit accepts b clock after (subst (λ x. ReadIf leads x clock after) same c) })
-        (record {
-          later = next clock;
-          is = ap (λ n. let s = apply_to enough_so own n rows (presence bytes) in settled k limit accepts h s (applied (lists_of s.changes)) (is_ok s.answer) (given b)) (next_is b)
-              ∙ ap (λ x. record { answer = told_by s.answer (applied (lists_of s.changes)); hub = x; left = after_reading k limit accepts b (given b) }) (hub_is s.rows o rs dc)
-              ∙ ap (λ x. record { answer = told_by s.answer (applied (lists_of s.changes)); hub = then; left = x }) (left_is b);
-        })
+        (left _ s.rows o rs dc (made_apply k limit accepts h (next clock) bytes enough_so))
       where
         lifted_ok : (v : Result (Unit {0}) AwarenessFault) (n : AwarenessUpdateSummary) → is_ok (lifted (result_and v (Ok n))) ≡ is_ok v
         lifted_ok (Ok u) n = refl
@@ -124,12 +112,7 @@ module _ (k : Kind) (limit : ℕ) (lawful : Lawful k limit) (accepts : Said → 
         keeps k limit lawful accepts accepts (λ m. refl) (ToldAs next leads (Call.set bytes) (done_answer r) clock after) h then
         (record { call = Call.set bytes; answer = told_by s.answer done; readings = readings_if k limit accepts b (next clock) })
         (record { asked = refl; answered = told_done s.answer r a; readings = reads_if next leads k limit accepts b clock after (subst (λ x. ReadIf leads x clock after) same c) })
-        (record {
-          later = next clock;
-          is = ap (λ n. let s = set_to own n rows bytes in settled k limit accepts h s done (is_ok s.answer) (given b)) (next_is b)
-              ∙ ap (λ x. record { answer = told_by s.answer done; hub = x; left = after_reading k limit accepts b (given b) }) (hub_is s.rows o rs dc)
-              ∙ ap (λ x. record { answer = told_by s.answer done; hub = then; left = x }) (left_is b);
-        })
+        (left _ s.rows o rs dc (made_set k limit accepts h (next clock) bytes))
       where
         lifted_is : (v : Result (Unit {0}) AwarenessFault) → is_ok (lifted v) ≡ is_ok v
         lifted_is (Ok u) = refl
@@ -146,12 +129,7 @@ module _ (k : Kind) (limit : ℕ) (lawful : Lawful k limit) (accepts : Said → 
           keeps k limit lawful accepts accepts (λ m. refl) (ToldAs next leads call (done_answer r) clock after) h then
           (record { call = call; answer = told_by s.answer done; readings = readings_if k limit accepts b (next clock) })
           (record { asked = refl; answered = told_done s.answer r a; readings = reads_if next leads k limit accepts b clock after (subst (λ x. ReadIf leads x clock after) same c) })
-          (record {
-            later = next clock;
-            is = is_removal (given b) ∙ ap (λ n. let s = remove_from client n rows in settled k limit accepts h s done (is_ok s.answer && is_none (held_of client rows)) (given b)) (next_is b)
-                ∙ ap (λ x. record { answer = told_by s.answer done; hub = x; left = after_reading k limit accepts b (given b) }) (hub_is s.rows o rs dc)
-                ∙ ap (λ x. record { answer = told_by s.answer done; hub = then; left = x }) (left_is b);
-          })
+          (left _ s.rows o rs dc (made_removal k limit accepts h (next clock) client call is_removal))
         where
           lifted_is : (v : Result (Unit {0}) AwarenessFault) → is_ok (lifted v) ≡ is_ok v
           lifted_is (Ok u) = refl
@@ -159,7 +137,7 @@ module _ (k : Kind) (limit : ℕ) (lawful : Lawful k limit) (accepts : Said → 
 
   -- a call that only looks
   pub look_keeps : (h : Hub k) (clock : C) (call : Call) (a : Answer) → ((ns : List ℕ) → perform k limit accepts h ns call ≡ looked k h ns a) → Keeps k limit accepts accepts (ToldAs next leads call a clock clock) h h
-  look_keeps h clock call a is = keeps k limit lawful accepts accepts (λ m. refl) (ToldAs next leads call a clock clock) h h (record { call = call; answer = a; readings = [] }) (record { asked = refl; answered = refl; readings = refl }) (record { later = 0; is = is (0 ∷ []) })
+  look_keeps h clock call a is = keeps k limit lawful accepts accepts (λ m. refl) (ToldAs next leads call a clock clock) h h (record { call = call; answer = a; readings = [] }) (record { asked = refl; answered = refl; readings = refl }) (made_look k limit accepts h call a is)
 
 -- bytes that fit the room, or why none are written
 abbrev pub wrote_within : Kind → ℕ → Result (List ℕ) Fault → Answer

@@ -1,16 +1,15 @@
 -- What the contract of each call gives: the call was made, so that it carries the law on.
 use Rattle.std.proofs.Common.{◌≡◌, ℕ, Bool, true, false, ◌&&◌, List, [], ◌∷◌, ◌++◌, is_ok, is_none, Result, sym, refl, ap, ◌∙◌, subst}
-use Rattle.encoding.specs.Fields.{client_id}
 use Rattle.message.specs.Message.{Said}
 use Rattle.message.specs.Presence.{presence}
-use Rattle.awareness.specs.Calls.{Settled, apply as applied_to, set as set_to, remove as removed_from, listing}
+use Rattle.awareness.specs.Calls.{Settled, apply as applied_to, set as set_to, remove as removed_from}
 use Rattle.awareness.specs.Record.{Record, held_of}
 use Rattle.document.specs.Kind.{Kind, Lawful}
 use Rattle.calls.specs.declared.answer.Handled.{Handled}
 use Rattle.calls.specs.declared.answer.Refusal.{Refusal}
-use Rattle.calls.specs.Handling.{Hub, Handling, fits, next_reading, after_reading, handle as handled_by}
-use Rattle.law.specs.Words.{Call, handle, apply, set, clean, remove, step1, start, show, list, Answer, handled, applied, done, Told, told, wrote, both}
-use Rattle.law.specs.Model.{lists_of, told_by, showed, vector_bytes, live_bytes, listing_fits, settled, perform, readings_if, Made}
+use Rattle.calls.specs.Handling.{Hub, Handling, next_reading, after_reading, handle as handled_by}
+use Rattle.law.specs.Words.{Call, handle, apply, set, Answer, handled, applied, done, Told, told}
+use Rattle.law.specs.Model.{lists_of, told_by, looked, settled, removing, perform, readings_if, Made}
 use Rattle.law.specs.Law.{Law}
 use Rattle.law.specs.Promises.{GoesOn}
 use Rattle.law.proofs.Keeping.{law_next}
@@ -72,27 +71,12 @@ module _ (k : Kind) (limit : ℕ) (accepts : Said → Bool) (h : Hub k) where
         Made k limit accepts h (told (set bytes) (told_by s.answer done) (readings_if k limit accepts (is_ok s.answer) next)) (with_rows s.rows)
     made_set bytes = made_by (λ n. set_to h.own n h.rows bytes) (λ _. done) (λ s. is_ok s.answer) (set bytes) (λ ns. refl)
 
-    -- a removal
-    pub made_remove : (c : ℕ)
+    -- a removal, by the call that asks for it
+    pub made_removal : (c : ℕ) (call : Call) → ((ns : List ℕ) → perform k limit accepts h ns call ≡ removing k limit accepts h c ns)
         → let s = removed_from c next h.rows in
-        Made k limit accepts h (told (remove c) (told_by s.answer done) (readings_if k limit accepts (is_ok s.answer && is_none (held_of c h.rows)) next)) (with_rows s.rows)
-    made_remove c = made_by (λ n. removed_from c n h.rows) (λ _. done) (λ s. is_ok s.answer && is_none (held_of c h.rows)) (remove c) (λ ns. refl)
+        Made k limit accepts h (told call (told_by s.answer done) (readings_if k limit accepts (is_ok s.answer && is_none (held_of c h.rows)) next)) (with_rows s.rows)
+    made_removal c call is = made_by (λ n. removed_from c n h.rows) (λ _. done) (λ s. is_ok s.answer && is_none (held_of c h.rows)) call is
 
-    -- and that of the own client
-    pub made_clean :
-        let s = removed_from h.own next h.rows in
-        Made k limit accepts h (told clean (told_by s.answer done) (readings_if k limit accepts (is_ok s.answer && is_none (held_of h.own h.rows)) next)) (with_rows s.rows)
-    made_clean = made_by (λ n. removed_from h.own n h.rows) (λ _. done) (λ s. is_ok s.answer && is_none (held_of h.own h.rows)) clean (λ ns. refl)
-
-  -- the calls that only look
-  pub made_step1 : (room : ℕ) → Made k limit accepts h (told (step1 room) (wrote (fits k room (vector_bytes k h))) []) h
-  made_step1 room = record { later = 0; is = refl }
-
-  pub made_start : (room : ℕ) → Made k limit accepts h (told (start room) (wrote (fits k room (both (vector_bytes k h) (live_bytes k h)))) []) h
-  made_start room = record { later = 0; is = refl }
-
-  pub made_show : (c : ℕ) → Made k limit accepts h (told (show c) (showed (client_id c) (held_of c h.rows)) []) h
-  made_show c = record { later = 0; is = refl }
-
-  pub made_list : (cs : List ℕ) (room : ℕ) → Made k limit accepts h (told (list cs room) (listing_fits k room (listing h.rows cs)) []) h
-  made_list cs room = record { later = 0; is = refl }
+  -- a call that only looks
+  pub made_look : (call : Call) (a : Answer) → ((ns : List ℕ) → perform k limit accepts h ns call ≡ looked k h ns a) → Made k limit accepts h (told call a []) h
+  made_look call a is = record { later = 0; is = is (0 ∷ []) }
