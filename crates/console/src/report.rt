@@ -1,8 +1,9 @@
 // Answers in words.
-use crate::driven::Setup;
 use awareness::record::Record;
 use calls::answer::{Handled, Refusal};
-use calls::fault::{Fault, Layer};
+use calls::fault::Fault;
+use driven::layer::LayerName;
+use driven::setup::Setup;
 use hexadecimal::Hex;
 use hexadecimal::shown::{Counted, Shown};
 use state_vector::keyed::Keyed;
@@ -39,23 +40,6 @@ const HELP: &str =
   help                 this
 an empty line, or one that begins with #, is no call
 ";
-
-// A layer by its name.
-#[derive(Clone, Copy)]
-struct LayerName(Layer);
-
-impl fmt::Display for LayerName {
-    // The name.
-    fn fmt<W: fmt::Write>(&self, f: &mut fmt::Formatter<W>) -> fmt::Result {
-        f.write_str(match self.0 {
-            Layer::Wire => "wire",
-            Layer::Presence => "presence",
-            Layer::Policy => "policy",
-            Layer::Document => "document",
-            Layer::Buffer => "buffer",
-        })
-    }
-}
 
 // What a line is answered.
 #[derive(Drop)]

@@ -1,10 +1,11 @@
 // A hub and what is asked of it, line by line.
-use crate::driven::{Driven, Setup, Ticking};
 use crate::messages::{read_clients, write_words};
 use crate::report::Report;
 use anyhow::ensure;
 use awareness::summary::ChangeLists;
 use call_line::call::{Call, read_call};
+use driven::driven::Driven;
+use driven::setup::{Setup, Ticking};
 use hexadecimal::parse_line;
 use product::fresh_hub;
 use std::alloc::Global;
@@ -12,10 +13,9 @@ use std::alloc::Global;
 // The most bytes of room, and places, that may be asked for.
 const MOST: u64 = 1 << 20;
 
-// What a hub is made of, and the caller's room for bytes and places for lists.
+// The caller's room for bytes and places for lists.
 #[derive(Clone, Copy)]
-pub struct State {
-    pub setup: Setup,
+pub struct Sizes {
     pub room: usize,
     pub places: usize,
 }
@@ -24,8 +24,9 @@ pub struct State {
 #[derive(Drop)]
 pub struct Session<D> {
     heap: Global,
-    state: State,
     hub: D,
+    setup: Setup,
+    sizes: Sizes,
     next: Option<Setup>,
 }
 
@@ -37,23 +38,24 @@ fn size_of(number: u64) -> anyhow::Result<usize> {
 
 impl<D: Driven> Session<D> {
     // A hub at its first call.
-    pub fn new(heap: Global, hub: D, state: State) -> Session<D> {
+    pub fn new(heap: Global, hub: D, setup: Setup, sizes: Sizes) -> Session<D> {
         Session {
             heap,
-            state,
             hub,
+            setup,
+            sizes,
             next: None,
         }
     }
 
-    // What the next hub works with, where a fresh one was asked for.
-    pub fn next(&self) -> Option<State> {
-        let State { room, places, .. } = self.state;
-        self.next.map(|setup| State {
-            setup,
-            room,
-            places,
-        })
+    // What the next hub is made of, where a fresh one was asked for.
+    pub fn next(&self) -> Option<Setup> {
+        self.next
+    }
+
+    // The room and the places that there are.
+    pub fn sizes(&self) -> Sizes {
+        self.sizes
     }
 
     // What a line is answered: nothing where it is no call, and an error where it cannot be read.
@@ -62,24 +64,18 @@ impl<D: Driven> Session<D> {
         match read_call(line)? {
             Call::Nothing => {}
             Call::Help => report.add_help()?,
-            Call::Own(own) => self.begin(
-                Setup {
-                    own,
-                    ..self.state.setup
-                },
-                &mut report,
-            )?,
+            Call::Own(own) => self.begin(Setup { own, ..self.setup }, &mut report)?,
             Call::Host(board) => self.begin(
                 Setup {
                     board,
-                    ..self.state.setup
+                    ..self.setup
                 },
                 &mut report,
             )?,
             Call::Policy(rules) => self.begin(
                 Setup {
                     rules,
-                    ..self.state.setup
+                    ..self.setup
                 },
                 &mut report,
             )?,
@@ -88,19 +84,19 @@ impl<D: Driven> Session<D> {
                 self.begin(
                     Setup {
                         clock,
-                        ..self.state.setup
+                        ..self.setup
                     },
                     &mut report,
                 )?;
             }
             Call::Clock(reading) => self.set_clock(reading, &mut report)?,
             Call::Room(room) => {
-                self.state.room = size_of(room)?;
-                report.add_sizes(self.state.room, self.state.places)?;
+                self.sizes.room = size_of(room)?;
+                report.add_sizes(self.sizes.room, self.sizes.places)?;
             }
             Call::Places(places) => {
-                self.state.places = size_of(places)?;
-                report.add_sizes(self.state.room, self.state.places)?;
+                self.sizes.places = size_of(places)?;
+                report.add_sizes(self.sizes.room, self.sizes.places)?;
             }
             call => self.ask(call, &mut report)?,
         }
@@ -123,12 +119,12 @@ impl<D: Driven> Session<D> {
         let clock = Ticking::Set(reading);
         let setup = Setup {
             clock,
-            ..self.state.setup
+            ..self.setup
         };
-        match self.state.setup.clock {
+        match self.setup.clock {
             Ticking::Set(_) => {
                 self.hub.set_clock(reading);
-                self.state.setup = setup;
+                self.setup = setup;
                 report.add_clock(reading)
             }
             Ticking::Step(_) => self.begin(setup, report),
@@ -157,12 +153,12 @@ impl<D: Driven> Session<D> {
 
     // The room for bytes.
     fn out(&self) -> anyhow::Result<Vec<u8>> {
-        Ok(vec![in self.heap; 0u8; self.state.room]?)
+        Ok(vec![in self.heap; 0u8; self.sizes.room]?)
     }
 
     // The places of one list.
     fn list_places(&self) -> anyhow::Result<Vec<u64>> {
-        Ok(vec![in self.heap; 0u64; self.state.places]?)
+        Ok(vec![in self.heap; 0u64; self.sizes.places]?)
     }
 
     // Messages, with their replies.

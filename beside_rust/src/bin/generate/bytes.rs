@@ -91,6 +91,7 @@ pub fn text(r: &mut Random, scope: Scope) -> Vec<u8> {
         2 => [&[b'a'; 254][..], b"\xc3\xa9"].concat(),
         3 => [&[b'a'; 256][..], b"\xff"].concat(),
         4 | 5 => r.pick(&NOT_TEXTS).to_vec(),
+        _ if scope.width == Width::Narrow && r.once_in(5) => b"null".to_vec(),
         _ => r.pick(&TEXTS).to_vec(),
     }
 }

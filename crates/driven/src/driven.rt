@@ -2,50 +2,12 @@
 use awareness::clock::{Clock, SetClock, StepClock};
 use awareness::record::Record;
 use awareness::summary::{AwarenessUpdateSummary, ChangeLists};
-use call_line::call::{Board, Rules};
 use calls::answer::{Handled, Refusal};
 use calls::policy::Policy;
 use document::host::DocumentHost;
 use encoding::sink::BufferTooShort;
 use hub::hub::Hub;
 use state_vector::vector::StateVector;
-use std::fmt;
-
-// A clock, by its kind and its first reading.
-#[derive(Clone, Copy)]
-pub enum Ticking {
-    Set(u64),
-    Step(u64),
-}
-
-// What a fresh hub is made of.
-#[derive(Clone, Copy)]
-pub struct Setup {
-    pub own: u64,
-    pub board: Board,
-    pub rules: Rules,
-    pub clock: Ticking,
-}
-
-impl fmt::Display for Setup {
-    // The hub in words.
-    fn fmt<W: fmt::Write>(&self, f: &mut fmt::Formatter<W>) -> fmt::Result {
-        let own = self.own;
-        let board = match self.board {
-            Board::Count => "count",
-            Board::Slot => "slot",
-        };
-        let rules = match self.rules {
-            Rules::Default => "default",
-            Rules::Ranges => "ranges",
-        };
-        write!(f, "own {own}, document {board}, policy {rules}, ")?;
-        match self.clock {
-            Ticking::Set(reading) => write!(f, "clock {reading}"),
-            Ticking::Step(reading) => write!(f, "clock step {reading}"),
-        }
-    }
-}
 
 // The calls of a hub.
 pub trait Driven: Drop {
@@ -62,6 +24,12 @@ pub trait Driven: Drop {
     fn clean(&mut self) -> Result<(), Refusal>;
 
     fn remove(&mut self, client: u64) -> Result<(), Refusal>;
+
+    // The document's vector as step 1.
+    fn step1(&self, out: &mut [u8]) -> Result<usize, Refusal>;
+
+    // Step 1, then all live records.
+    fn start(&self, out: &mut [u8]) -> Result<usize, Refusal>;
 
     fn show(&self, client: u64) -> Result<Option<&Record>, Refusal>;
 
@@ -120,6 +88,14 @@ impl<H: DocumentHost + Drop, C: Turned + Drop, P: Policy + Drop> Driven for Hub<
 
     fn remove(&mut self, client: u64) -> Result<(), Refusal> {
         Hub::remove(self, client)
+    }
+
+    fn step1(&self, out: &mut [u8]) -> Result<usize, Refusal> {
+        Hub::step1(self, out)
+    }
+
+    fn start(&self, out: &mut [u8]) -> Result<usize, Refusal> {
+        Hub::start(self, out)
     }
 
     fn show(&self, client: u64) -> Result<Option<&Record>, Refusal> {
