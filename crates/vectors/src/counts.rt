@@ -68,11 +68,13 @@ impl Counts {
 
     // An answer that was compared.
     pub fn add_compared(&mut self, refused: Option<u8>) -> Result<(), AllocError> {
-        let count = match refused {
-            None => &mut self.accepted,
-            Some(number) => self.refused.entry(number)?.or_insert(0),
-        };
-        *count = count.saturating_add(1);
+        match refused {
+            None => self.accepted = self.accepted.saturating_add(1),
+            Some(number) => {
+                let count = self.refused.entry(number)?.or_insert(0);
+                *count = count.saturating_add(1);
+            }
+        }
         Ok(())
     }
 

@@ -131,10 +131,12 @@ fn counted(r: &mut Random, scope: Scope, entry: impl Fn(&mut Random, u64) -> Vec
     let count = declared(r, len);
     let mut bytes = number(r, count);
     let first = r.below(NARROW_CLIENTS.len());
+    // of two crowds one alone fits a hub, and both together do not
+    let crowd = *r.pick(&[0, 0, 40]);
     let repeats = scope.width == Width::Wide || r.once_in(200);
     for i in 0..len {
         let client = match len {
-            5.. => i as u64,
+            5.. => crowd + i as u64,
             _ if repeats => client(r, scope),
             _ => NARROW_CLIENTS[(first + i) % NARROW_CLIENTS.len()],
         };

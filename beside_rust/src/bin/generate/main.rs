@@ -42,9 +42,9 @@ fn sample(seed: u64) -> Calls {
     let scripts = scripts::crowds()
         .chain(some(rows::all(3), 150))
         .chain(some(rows::damaged(), 200))
-        .chain(some(limits::all(), 40))
-        .chain(scripts::many(Random::new(seed), 150, 40))
-        .chain(scripts::settled(Random::new(seed), 4, 1000));
+        .chain(some(limits::all(), 29))
+        .chain(scripts::many(Random::new(seed), 100, 40))
+        .chain(scripts::settled(Random::new(seed), 4, 600));
     Box::new(reading.chain(scripts))
 }
 
