@@ -83,7 +83,10 @@ impl<'a, T: Print + AllocGlobal, R: BufRead + Drop> Replay<'a, T, R> {
         let agrees = match wanted.strip_prefix('?') {
             Some(number) => {
                 self.counts.outside.add(kind.unwrap_or_default())?;
-                number.is_empty() || number.trim_ascii().parse().ok() == answer.refused
+                match number.trim_ascii() {
+                    "" => true,
+                    number => answer.refused == Some(number.parse()?),
+                }
             }
             None => {
                 self.counts.add_compared(answer.refused)?;

@@ -3,6 +3,7 @@ use crate::bytes::{self, Scope, NARROW, WIDE};
 use crate::random::Random;
 use crate::reading::fields;
 use crate::rows::KINDS;
+use crate::spell;
 use beside_rust::call::{Call, Hex, Pace, Policy};
 use beside_rust::oracle::Oracle;
 use beside_rust::standins::board::Kind;
@@ -41,7 +42,15 @@ fn known(r: &mut Random) -> u64 {
     bytes::client(r, NARROW)
 }
 
-fn step(r: &mut Random, pace: Pace, scope: Scope) -> Call {
+/// An update of many entries, more and more of which fill a board.
+fn many_parts(r: &mut Random, kind: Kind, scope: Scope) -> Vec<u8> {
+    let first = r.below(60) as u64;
+    let clients = first..first + 1 + r.below(20) as u64;
+    let parts: Vec<_> = clients.map(|client| spell::part(kind, client, scope.clock + 1)).collect();
+    spell::update(&spell::counted(&parts))
+}
+
+fn step(r: &mut Random, kind: Kind, pace: Pace, scope: Scope) -> Call {
     match r.below(40) {
         0..=14 => Call::Handle(Hex(packet(r, scope))),
         15..=21 => Call::Apply(Hex(bytes::presence(r, scope))),
@@ -56,6 +65,7 @@ fn step(r: &mut Random, pace: Pace, scope: Scope) -> Call {
         35 if pace == Pace::Set => Call::Clock(r.below(1000) as u64),
         36 if r.once_in(8) => Call::Set(Hex(bytes::text(r, WIDE))),
         37 => Call::Write(fields(r)),
+        38 if scope.crowds && r.once_in(3) => Call::Handle(Hex(many_parts(r, kind, scope))),
         _ => Call::Records,
     }
 }
@@ -63,12 +73,12 @@ fn step(r: &mut Random, pace: Pace, scope: Scope) -> Call {
 /// A fresh hub, many calls, and a look at all that it holds in the end. Clocks go on with the calls.
 fn script(r: &mut Random, len: usize, looks: Looks) -> Vec<Call> {
     let hub = fresh(r);
-    let Call::Hub { pace, .. } = hub else { return Vec::new() };
+    let Call::Hub { kind, pace, .. } = hub else { return Vec::new() };
     let crowds = r.once_in(2);
     let mut calls = vec![hub];
     for i in 0..len {
         let scope = Scope { clock: i as u64 / 6, crowds, ..NARROW };
-        let call = step(r, pace, scope);
+        let call = step(r, kind, pace, scope);
         match call {
             _ if looks == Looks::Seldom && !r.once_in(20) => calls.push(call),
             Call::Handle(_) => calls.extend([call, Call::Records, Call::Document]),
