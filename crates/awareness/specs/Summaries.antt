@@ -39,6 +39,11 @@ pub record Listed (xs : List (ℕ × Change)) (old new : ChangeLists) : Type 0 w
   pub updated : new.updated.now ≡ over (listed is_updated xs) old.updated.now
   pub changed : new.changed.now ≡ over (listed is_changed xs) old.changed.now
   pub removed : new.removed.now ≡ over (listed is_removed xs) old.removed.now
+  -- and are as many as before
+  pub added_long : length new.added.now ≡ length old.added.now
+  pub updated_long : length new.updated.now ≡ length old.updated.now
+  pub changed_long : length new.changed.now ≡ length old.changed.now
+  pub removed_long : length new.removed.now ≡ length old.removed.now
   -- the places are the same ones
   pub added_is : new.added.ghost_name ≡ old.added.ghost_name
   pub updated_is : new.updated.ghost_name ≡ old.updated.ghost_name

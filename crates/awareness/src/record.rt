@@ -55,6 +55,16 @@ impl Record {
         }
     }
 
+    // A copy of the record.
+    pub fn copy(&self) -> Record
+        ensures { result ≡ self.now }
+    {
+        Record {
+            presence: self.presence.copy(),
+            time: self.time,
+        }
+    }
+
     // Its clock.
     pub fn clock(&self) -> u32
         ensures { result ≡ self.now.clock }

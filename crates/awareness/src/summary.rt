@@ -116,6 +116,10 @@ impl ChangeLists<'_> {
         ensures updated { self.new.updated.now ≡ over seen.now.updated self.old.updated.now }
         ensures changed { self.new.changed.now ≡ over seen.now.changed self.old.changed.now }
         ensures removed { self.new.removed.now ≡ over seen.now.removed self.old.removed.now }
+        ensures added_long { length self.new.added.now ≡ length self.old.added.now }
+        ensures updated_long { length self.new.updated.now ≡ length self.old.updated.now }
+        ensures changed_long { length self.new.changed.now ≡ length self.old.changed.now }
+        ensures removed_long { length self.new.removed.now ≡ length self.old.removed.now }
         ensures added_is { self.new.added.ghost_name ≡ self.old.added.ghost_name }
         ensures updated_is { self.new.updated.ghost_name ≡ self.old.updated.ghost_name }
         ensures changed_is { self.new.changed.ghost_name ≡ self.old.changed.ghost_name }

@@ -7,7 +7,6 @@ use crate::record::Record;
 use crate::summary::ChangeLists;
 use crate::winning::winning_text;
 use encoding::fault::WireFault;
-use encoding::sink::BufferTooShort;
 use message::arrived::ArrivedUpdate;
 use message::text::PresenceText;
 use state_vector::keyed::Keyed;
@@ -16,6 +15,13 @@ use std::test::Fail;
 
 // The first id that no client can have.
 const NO_CLIENT: u64 = 9007199254740992;
+
+// What the table of records refuses for.
+const CLOCK_AT_END: AwarenessFault = AwarenessFault::Presence(PresenceFault::ClockAtEnd);
+
+const TOO_MANY_CLIENTS: AwarenessFault = AwarenessFault::Presence(PresenceFault::TooManyClients);
+
+const CLIENT_NOT_FOUND: AwarenessFault = AwarenessFault::Presence(PresenceFault::ClientNotFound);
 
 // A hub of client 1 that tells its changes in 64 places a list, and a clock that tells its readings from 100 on.
 #[derive(Drop)]
@@ -28,12 +34,21 @@ struct Site {
     removed: [u64; 64],
 }
 
-// What is held of a client.
+// What is held of a client: at which clock, and since when.
 #[derive(Clone, Copy, Debug, PartialEq, Eq)]
-struct Held {
-    clock: u32,
-    time: u64,
-    live: bool,
+enum Held {
+    Nothing,
+    Live(u32, u64),
+    Null(u32, u64),
+}
+
+// What is asked of a site.
+#[derive(Clone, Copy)]
+enum Ask<'a> {
+    Apply(&'a [u8]),
+    Set(&'a [u8]),
+    Remove(u64),
+    Clean,
 }
 
 impl Site {
@@ -48,7 +63,6 @@ impl Site {
         })
     }
 
-    // How many clients each list has after an update.
     fn apply(&mut self, update: &[u8]) -> Result<[usize; 4], AwarenessFault> {
         let mut lists = ChangeLists {
             added: &mut self.added,
@@ -62,133 +76,115 @@ impl Site {
         Ok([told.added, told.updated, told.changed, told.removed])
     }
 
-    fn held(&self, client: u64) -> Result<Option<Held>, WireFault> {
-        let held = self.hub.meta(client)?.map(|r| Held {
-            clock: r.clock(),
-            time: r.time(),
-            live: r.state().is_some(),
-        });
+    // How many clients each list has then; what is no update tells of none.
+    fn ask(&mut self, ask: Ask) -> Result<[usize; 4], AwarenessFault> {
+        match ask {
+            Ask::Apply(update) => return self.apply(update),
+            Ask::Set(text) => self.hub.set_local_state_raw(text, &mut self.clock)?,
+            Ask::Remove(client) => self.hub.remove_state(client, &mut self.clock)?,
+            Ask::Clean => self.hub.clean_local_state(&mut self.clock)?,
+        }
+        Ok([0; 4])
+    }
+
+    fn held(&self, client: u64) -> Result<Held, WireFault> {
+        let held = match self.hub.meta(client)? {
+            None => Held::Nothing,
+            Some(r) if r.state().is_some() => Held::Live(r.clock(), r.time()),
+            Some(r) => Held::Null(r.clock(), r.time()),
+        };
         Ok(held)
     }
 
-    // What is held of a client, and the clock's next reading.
-    fn stands(&self, client: u64) -> Result<(Option<Held>, u64), WireFault> {
-        Ok((self.held(client)?, self.clock.reading))
-    }
-
-    fn set(&mut self, text: &[u8]) -> Result<(), AwarenessFault> {
-        self.hub.set_local_state_raw(text, &mut self.clock)
-    }
-
-    fn remove(&mut self, client: u64) -> Result<(), AwarenessFault> {
-        self.hub.remove_state(client, &mut self.clock)
+    // The first places of the four lists.
+    fn firsts(&self) -> [[u64; 3]; 4] {
+        [
+            front(&self.added),
+            front(&self.updated),
+            front(&self.changed),
+            front(&self.removed),
+        ]
     }
 }
 
-// What is held at a clock, since a time.
-fn live(clock: u32, time: u64) -> Option<Held> {
-    Some(Held {
-        clock,
-        time,
-        live: true,
-    })
+fn front(list: &[u64; 64]) -> [u64; 3] {
+    [list[0], list[1], list[2]]
 }
 
-fn null(clock: u32, time: u64) -> Option<Held> {
-    Some(Held {
-        clock,
-        time,
-        live: false,
-    })
-}
-
-// An update, what it tells, and what is held of a client then.
+// What is asked, what is told, then of a client what is held, and the clock's next reading.
 #[derive(Clone, Copy)]
-struct Step<'a> {
-    update: &'a [u8],
-    told: Result<[usize; 4], AwarenessFault>,
-    held: Option<Held>,
-}
+struct Step<'a>(
+    Ask<'a>,
+    Result<[usize; 4], AwarenessFault>,
+    (u64, Held),
+    u64,
+);
 
-// Updates come one after another, and the clock is read once for each that is taken.
-fn check_steps(rt: &impl Abort, site: &mut Site, client: u64, steps: &[Step]) -> Result<(), Fail> {
-    for step in steps {
-        let before = site.clock.reading;
-        assert_eq!(rt; site.apply(step.update), step.told);
-        assert_eq!(rt; site.held(client)?, step.held);
-        let read = if step.told.is_ok() { 1 } else { 0 };
-        assert_eq!(rt; site.clock.reading.checked_sub(before), Some(read));
+// Calls come one after another.
+fn check_steps(rt: &impl Abort, site: &mut Site, steps: &[Step]) -> Result<(), Fail> {
+    for Step(ask, told, (client, held), reading) in steps {
+        let came = (site.ask(*ask), site.held(*client)?, site.clock.reading);
+        assert_eq!(rt; came, (*told, *held, *reading));
     }
     Ok(())
 }
 
-// A step that is taken.
-fn taken(update: &[u8], lists: [usize; 4], held: Option<Held>) -> Step<'_> {
-    Step {
-        update,
-        told: Ok(lists),
-        held,
-    }
-}
-
-// A step that the table of records cannot do.
-fn refused(update: &[u8], fault: PresenceFault, held: Option<Held>) -> Step<'_> {
-    Step {
-        update,
-        told: Err(AwarenessFault::Presence(fault)),
-        held,
-    }
-}
-
 #[test]
 fn an_own_text_stands_above_nulls(rt: HostRuntime) -> Result<(), Fail> {
-    let last_but_one = b"\x01\x01\xfe\xff\xff\xff\x0f\x04null";
-    let last = b"\x01\x01\xff\xff\xff\xff\x0f\x04null";
+    let comes = Ask::Apply(b"\x01\x01\x05\x01a");
+    let goes = Ask::Apply(b"\x01\x01\x05\x04null");
+    let older = Ask::Apply(b"\x01\x01\x04\x04null");
+    let last_but_one = Ask::Apply(b"\x01\x01\xfe\xff\xff\xff\x0f\x04null");
+    let last = Ask::Apply(b"\x01\x01\xff\xff\xff\xff\x0f\x04null");
+    let at_end = (1, Held::Live(u32::MAX, 104));
     let steps = [
-        taken(b"\x01\x01\x05\x01a", [1, 0, 0, 0], live(5, 100)),
-        taken(b"\x01\x01\x05\x04null", [0, 1, 0, 0], live(6, 101)),
-        taken(b"\x01\x01\x05\x04null", [0, 0, 0, 0], live(6, 101)),
-        taken(b"\x01\x01\x04\x04null", [0, 0, 0, 0], live(6, 101)),
-        taken(last_but_one, [0, 1, 0, 0], live(u32::MAX, 104)),
-        refused(last, PresenceFault::ClockAtEnd, live(u32::MAX, 104)),
-        taken(b"\x00", [0, 0, 0, 0], live(u32::MAX, 104)),
+        Step(comes, Ok([1, 0, 0, 0]), (1, Held::Live(5, 100)), 101),
+        Step(goes, Ok([0, 1, 0, 0]), (1, Held::Live(6, 101)), 102),
+        Step(goes, Ok([0; 4]), (1, Held::Live(6, 101)), 103),
+        Step(older, Ok([0; 4]), (1, Held::Live(6, 101)), 104),
+        Step(last_but_one, Ok([0, 1, 0, 0]), at_end, 105),
+        Step(last, Err(CLOCK_AT_END), at_end, 105),
+        Step(Ask::Apply(b"\x00"), Ok([0; 4]), at_end, 106),
     ];
     let mut site = Site::new()?;
-    check_steps(&rt, &mut site, 1, &steps)?;
+    check_steps(&rt, &mut site, &steps)?;
     assert_eq!(rt; &site.updated[..2], [1, NO_CLIENT].as_slice());
     Ok(())
 }
 
 #[test]
 fn null_wins_a_tie_and_the_first_text(rt: HostRuntime) -> Result<(), Fail> {
-    let comes = b"\x01\x07\x03\x04\"in\"";
+    let comes = Ask::Apply(b"\x01\x07\x03\x04\"in\"");
+    let goes = Ask::Apply(b"\x01\x07\x03\x04null");
+    let returns = Ask::Apply(b"\x01\x07\x04\x01a");
+    let another = Ask::Apply(b"\x01\x07\x04\x01b");
+    let later = Ask::Apply(b"\x01\x07\x05\x01a");
+    let null_alone = Ask::Apply(b"\x01\x05\x01\x04null");
     let steps = [
-        taken(comes, [1, 0, 0, 0], live(3, 100)),
-        taken(b"\x01\x07\x03\x04null", [0, 0, 0, 1], null(3, 101)),
-        taken(comes, [0, 0, 0, 0], null(3, 101)),
-        taken(b"\x01\x07\x04\x01a", [0, 1, 1, 0], live(4, 103)),
-        taken(b"\x01\x07\x04\x01b", [0, 0, 0, 0], live(4, 103)),
-        taken(b"\x01\x07\x05\x01a", [0, 1, 0, 0], live(5, 105)),
-        taken(b"\x01\x05\x01\x04null", [0, 0, 0, 0], live(5, 105)),
+        Step(comes, Ok([1, 0, 0, 0]), (7, Held::Live(3, 100)), 101),
+        Step(goes, Ok([0, 0, 0, 1]), (7, Held::Null(3, 101)), 102),
+        Step(comes, Ok([0; 4]), (7, Held::Null(3, 101)), 103),
+        Step(returns, Ok([0, 1, 1, 0]), (7, Held::Live(4, 103)), 104),
+        Step(another, Ok([0; 4]), (7, Held::Live(4, 103)), 105),
+        Step(later, Ok([0, 1, 0, 0]), (7, Held::Live(5, 105)), 106),
+        Step(null_alone, Ok([0; 4]), (5, Held::Null(1, 106)), 107),
     ];
     let mut site = Site::new()?;
-    check_steps(&rt, &mut site, 7, &steps)?;
+    check_steps(&rt, &mut site, &steps)?;
     let mut out = [0; 5];
     site.hub.update(&mut out)?;
     assert_eq!(rt; out, *b"\x01\x07\x05\x01a");
-    assert_eq!(rt; site.held(5)?, null(1, 106), "in no list, but held");
     Ok(())
 }
 
 #[test]
 fn lists_ascend_and_a_client_can_be_in_each(rt: HostRuntime) -> Result<(), Fail> {
-    let all = b"\x04\x09\x01\x01a\x07\x01\x01a\x07\x02\x01b\x07\x03\x04null";
+    let all = Ask::Apply(b"\x04\x09\x01\x01a\x07\x01\x01a\x07\x02\x01b\x07\x03\x04null");
     let mut site = Site::new()?;
-    assert_eq!(rt; site.apply(all)?, [2, 1, 1, 1]);
-    assert_eq!(rt; &site.added[..3], [7, 9, NO_CLIENT].as_slice());
-    let firsts = [site.updated[0], site.changed[0], site.removed[0]];
-    assert_eq!(rt; firsts, [7; 3]);
-    assert_eq!(rt; site.held(7)?, null(3, 100));
+    let steps = [Step(all, Ok([2, 1, 1, 1]), (7, Held::Null(3, 100)), 101)];
+    check_steps(&rt, &mut site, &steps)?;
+    let seven = [7, NO_CLIENT, NO_CLIENT];
+    assert_eq!(rt; site.firsts(), [[7, 9, NO_CLIENT], seven, seven, seven]);
     Ok(())
 }
 
@@ -205,58 +201,69 @@ fn many() -> [u8; 253] {
     update
 }
 
-// 64 clients, of whom the own one is live at the last clock.
-fn full() -> Result<Site, Fail> {
+// 64 clients, of whom one comes by this update.
+fn full(first: &[u8]) -> Result<Site, Fail> {
     let mut site = Site::new()?;
-    site.apply(b"\x01\x01\xff\xff\xff\xff\x0f\x01a")?;
+    site.apply(first)?;
     site.apply(&many())?;
     Ok(site)
 }
 
+// The own client, live at the last clock.
+const OWN_AT_END: &[u8] = b"\x01\x01\xff\xff\xff\xff\x0f\x01a";
+
 // The table is judged before the own clock, in each call.
 #[test]
 fn a_65th_client_is_refused(rt: HostRuntime) -> Result<(), Fail> {
-    let mut site = full()?;
-    let held = live(u32::MAX, 100);
-    let both = b"\x02\x01\xff\xff\xff\xff\x0f\x04null\x41\x01\x01a";
-    let known = b"\x02\x01\xff\xff\xff\xff\x0f\x04null\x40\x02\x01a";
+    let one = Ask::Apply(b"\x01\x41\x01\x01a");
+    let both = Ask::Apply(b"\x02\x01\xff\xff\xff\xff\x0f\x04null\x41\x01\x01a");
+    let known = Ask::Apply(b"\x02\x01\xff\xff\xff\xff\x0f\x04null\x40\x02\x01a");
+    let later = Ask::Apply(b"\x01\x40\x02\x01b");
+    let own = (1, Held::Live(u32::MAX, 100));
     let steps = [
-        refused(b"\x01\x41\x01\x01a", PresenceFault::TooManyClients, held),
-        refused(both, PresenceFault::TooManyClients, held),
-        refused(known, PresenceFault::ClockAtEnd, held),
-        taken(b"\x01\x40\x02\x01b", [0, 1, 1, 0], held),
+        Step(one, Err(TOO_MANY_CLIENTS), own, 102),
+        Step(both, Err(TOO_MANY_CLIENTS), own, 102),
+        Step(known, Err(CLOCK_AT_END), own, 102),
+        Step(later, Ok([0, 1, 1, 0]), (64, Held::Live(2, 102)), 103),
     ];
-    check_steps(&rt, &mut site, 1, &steps)?;
+    let mut site = full(OWN_AT_END)?;
+    check_steps(&rt, &mut site, &steps)?;
     assert_eq!(rt; site.hub.records().len(), 64);
-    assert_eq!(rt; site.held(64)?, live(2, 102));
     Ok(())
 }
 
 #[test]
 fn a_full_table_refuses_removals_and_sets(rt: HostRuntime) -> Result<(), Fail> {
-    let mut site = full()?;
-    let none = Err(AwarenessFault::Presence(PresenceFault::TooManyClients));
-    let at_end = Err(AwarenessFault::Presence(PresenceFault::ClockAtEnd));
-    assert_eq!(rt; site.remove(65), none);
-    assert_eq!(rt; site.remove(1), at_end);
-    assert_eq!(rt; site.set(b"b"), at_end);
-    assert_eq!(rt; site.held(1)?, live(u32::MAX, 100));
+    let own = (1, Held::Live(u32::MAX, 100));
+    let steps = [
+        Step(
+            Ask::Remove(65),
+            Err(TOO_MANY_CLIENTS),
+            (65, Held::Nothing),
+            102,
+        ),
+        Step(Ask::Remove(1), Err(CLOCK_AT_END), own, 102),
+        Step(Ask::Clean, Err(CLOCK_AT_END), own, 102),
+        Step(Ask::Set(b"b"), Err(CLOCK_AT_END), own, 102),
+    ];
+    let mut site = full(OWN_AT_END)?;
+    check_steps(&rt, &mut site, &steps)?;
     assert_eq!(rt; site.hub.records().len(), 64);
-    assert_eq!(rt; site.clock.reading, 102, "no refusal reads it");
     Ok(())
 }
 
 #[test]
 fn no_place_for_the_own_client(rt: HostRuntime) -> Result<(), Fail> {
-    let mut site = Site::new()?;
-    site.apply(&many())?;
-    site.apply(b"\x01\x41\x01\x01a")?;
-    let full = Err(AwarenessFault::Presence(PresenceFault::TooManyClients));
-    assert_eq!(rt; site.set(b"a"), full);
-    assert_eq!(rt; site.hub.clean_local_state(&mut site.clock), full);
-    assert_eq!(rt; site.held(1)?, None);
-    assert_eq!(rt; site.clock.reading, 102);
-    Ok(())
+    let steps = [
+        Step(
+            Ask::Set(b"a"),
+            Err(TOO_MANY_CLIENTS),
+            (1, Held::Nothing),
+            102,
+        ),
+        Step(Ask::Clean, Err(TOO_MANY_CLIENTS), (1, Held::Nothing), 102),
+    ];
+    check_steps(&rt, &mut full(b"\x01\x41\x01\x01a")?, &steps)
 }
 
 // Each fault of the bytes of an update.
@@ -281,9 +288,8 @@ fn updates_that_cannot_be_read(rt: HostRuntime) -> Result<(), Fail> {
     let mut site = Site::new()?;
     for (update, fault) in table {
         assert_eq!(rt; site.apply(update), Err(AwarenessFault::Wire(fault)));
-        assert_eq!(rt; site.hub.records().len(), 0);
     }
-    assert_eq!(rt; site.clock.reading, 100);
+    assert_eq!(rt; (site.hub.records().len(), site.clock.reading), (0, 100));
     Ok(())
 }
 
@@ -306,55 +312,60 @@ fn each_list_needs_64_places(rt: HostRuntime) -> Result<(), Fail> {
     Ok(())
 }
 
+// A null set is no text, and the own client that is made null keeps its time.
 #[test]
 fn the_own_state_is_set(rt: HostRuntime) -> Result<(), Fail> {
-    let mut site = Site::new()?;
-    site.set(b"a")?;
-    assert_eq!(rt; site.stands(1)?, (live(1, 100), 101));
-    site.set(b"null")?;
-    assert_eq!(rt; site.stands(1)?, (null(2, 101), 102), "null, and no text");
-    site.set(&[b'a'; 256])?;
-    assert_eq!(rt; site.stands(1)?, (live(3, 102), 103));
-    site.hub.clean_local_state(&mut site.clock)?;
-    assert_eq!(rt; site.stands(1)?, (null(4, 102), 103), "it keeps its time");
-    Ok(())
+    let longest = [b'a'; 256];
+    let steps = [
+        Step(Ask::Set(b"a"), Ok([0; 4]), (1, Held::Live(1, 100)), 101),
+        Step(Ask::Set(b"null"), Ok([0; 4]), (1, Held::Null(2, 101)), 102),
+        Step(Ask::Set(&longest), Ok([0; 4]), (1, Held::Live(3, 102)), 103),
+        Step(Ask::Clean, Ok([0; 4]), (1, Held::Null(4, 102)), 103),
+    ];
+    check_steps(&rt, &mut Site::new()?, &steps)
 }
 
 #[test]
 fn no_text_is_set_that_cannot_be_read(rt: HostRuntime) -> Result<(), Fail> {
-    let mut site = Site::new()?;
-    site.set(b"a")?;
-    let table: [(&[u8], WireFault); 2] = [
-        (&[b'a'; 257], WireFault::TextTooLong),
-        (b"\xff", WireFault::UnexpectedValue),
+    let too_long = AwarenessFault::Wire(WireFault::TextTooLong);
+    let no_text = AwarenessFault::Wire(WireFault::UnexpectedValue);
+    let held = (1, Held::Live(1, 100));
+    let steps = [
+        Step(Ask::Set(b"a"), Ok([0; 4]), held, 101),
+        Step(Ask::Set(&[b'a'; 257]), Err(too_long), held, 101),
+        Step(Ask::Set(b"\xff"), Err(no_text), held, 101),
     ];
-    for (text, fault) in table {
-        assert_eq!(rt; site.set(text), Err(AwarenessFault::Wire(fault)));
-        assert_eq!(rt; site.stands(1)?, (live(1, 100), 101));
-    }
-    Ok(())
+    check_steps(&rt, &mut Site::new()?, &steps)
 }
 
+// The clock is read where nothing was held.
 #[test]
 fn clients_are_removed(rt: HostRuntime) -> Result<(), Fail> {
-    let mut site = Site::new()?;
-    site.apply(b"\x01\x07\x03\x01a")?;
-    site.remove(7)?;
-    assert_eq!(rt; site.stands(7)?, (null(4, 100), 101), "held: not read");
-    site.remove(9)?;
-    assert_eq!(rt; site.stands(9)?, (null(1, 101), 102), "absent: read");
-    Ok(())
+    let comes = Ask::Apply(b"\x01\x07\x03\x01a");
+    let no_id = AwarenessFault::Wire(WireFault::InvalidClientId);
+    let steps = [
+        Step(comes, Ok([1, 0, 0, 0]), (7, Held::Live(3, 100)), 101),
+        Step(Ask::Remove(7), Ok([0; 4]), (7, Held::Null(4, 100)), 101),
+        Step(Ask::Remove(9), Ok([0; 4]), (9, Held::Null(1, 101)), 102),
+        Step(
+            Ask::Remove(NO_CLIENT),
+            Err(no_id),
+            (9, Held::Null(1, 101)),
+            102,
+        ),
+    ];
+    check_steps(&rt, &mut Site::new()?, &steps)
 }
 
 #[test]
 fn ids_are_below_2_to_the_53(rt: HostRuntime) -> Result<(), Fail> {
-    let mut site = Site::new()?;
-    let no_id = Err(AwarenessFault::Wire(WireFault::InvalidClientId));
-    assert_eq!(rt; site.remove(NO_CLIENT), no_id);
-    assert_eq!(rt; site.held(NO_CLIENT), Err(WireFault::InvalidClientId));
     assert!(rt; Awareness::new(NO_CLIENT).is_err());
     let last = Awareness::new(NO_CLIENT - 1)?;
     assert_eq!(rt; last.client_id(), NO_CLIENT - 1);
+    assert_eq!(rt;
+        last.meta(NO_CLIENT).err(),
+        Some(WireFault::InvalidClientId)
+    );
     Ok(())
 }
 
@@ -365,24 +376,46 @@ fn three() -> Result<Awareness, Fail> {
     Ok(site.hub)
 }
 
+// What is answered, and what stands in a buffer then: the update of some clients, or of all that are live.
+fn written<const N: usize>(
+    hub: &Awareness,
+    clients: Option<&[u64]>,
+) -> (Result<usize, AwarenessFault>, [u8; N]) {
+    let mut out = [0xee; N];
+    let answer = match clients {
+        Some(clients) => hub.update_with_clients(clients, &mut out),
+        None => hub.update(&mut out).map_err(AwarenessFault::from),
+    };
+    (answer, out)
+}
+
 #[test]
 fn updates_are_written(rt: HostRuntime) -> Result<(), Fail> {
+    let table: [(Option<&[u64]>, usize, [u8; 12]); 3] = [
+        (None, 9, *b"\x02\x05\x02\x01a\x09\x01\x01c\xee\xee\xee"),
+        (Some(&[7, 5, 7]), 12, *b"\x02\x05\x02\x01a\x07\x03\x04null"),
+        (
+            Some(&[]),
+            1,
+            *b"\x00\xee\xee\xee\xee\xee\xee\xee\xee\xee\xee\xee",
+        ),
+    ];
     let hub = three()?;
-    let mut out = [0xee; 12];
-    assert_eq!(rt; hub.update(&mut out)?, 9);
-    assert_eq!(rt; out, *b"\x02\x05\x02\x01a\x09\x01\x01c\xee\xee\xee");
+    for (clients, len, bytes) in table {
+        assert_eq!(rt; written(&hub, clients), (Ok(len), bytes));
+    }
     assert_eq!(rt; hub.live().count(), 2);
-    let mut out = [0xee; 12];
-    assert_eq!(rt; hub.update_with_clients(&[7, 5, 7], &mut out)?, 12);
-    assert_eq!(rt; out, *b"\x02\x05\x02\x01a\x07\x03\x04null");
-    assert_eq!(rt; hub.update_with_clients(&[], &mut out)?, 1);
-    let mut short = [0xee; 8];
-    assert_eq!(rt; hub.update(&mut short), Err(BufferTooShort));
-    assert_eq!(rt;
-        hub.update_with_clients(&[5, 7], &mut short),
-        Err(AwarenessFault::Short)
-    );
-    assert_eq!(rt; short, [0xee; 8]);
+    Ok(())
+}
+
+#[test]
+fn a_short_buffer_is_left_alone(rt: HostRuntime) -> Result<(), Fail> {
+    let hub = three()?;
+    let table: [Option<&[u64]>; 2] = [None, Some(&[5, 7])];
+    for clients in table {
+        let refused = (Err(AwarenessFault::Short), [0xee; 8]);
+        assert_eq!(rt; written(&hub, clients), refused);
+    }
     Ok(())
 }
 
@@ -390,28 +423,18 @@ fn updates_are_written(rt: HostRuntime) -> Result<(), Fail> {
 #[test]
 fn clients_asked_for_are_judged_in_order(rt: HostRuntime) -> Result<(), Fail> {
     let hub = three()?;
-    let mut none = [0; 0];
     let mut ids = [8; 65];
     ids[1] = NO_CLIENT;
     let table: [(&[u64], AwarenessFault); 5] = [
         (&ids, AwarenessFault::Wire(WireFault::TooManyEntries)),
         (&ids[1..], AwarenessFault::Wire(WireFault::InvalidClientId)),
-        (
-            &ids[2..],
-            AwarenessFault::Presence(PresenceFault::ClientNotFound),
-        ),
-        (
-            &[5, 8],
-            AwarenessFault::Presence(PresenceFault::ClientNotFound),
-        ),
+        (&ids[2..], CLIENT_NOT_FOUND),
+        (&[5, 8], CLIENT_NOT_FOUND),
         (&[5, 9], AwarenessFault::Short),
     ];
     for (clients, fault) in table {
-        assert_eq!(rt; hub.update_with_clients(clients, &mut none), Err(fault));
+        assert_eq!(rt; written(&hub, Some(clients)), (Err(fault), [0xee; 4]));
     }
-    let mut out = [0xee; 4];
-    assert!(rt; hub.update_with_clients(&[8], &mut out).is_err());
-    assert_eq!(rt; out, [0xee; 4]);
     Ok(())
 }
 
@@ -445,22 +468,27 @@ fn the_winning_text_is_one_of_the_two(rt: HostRuntime) -> Result<(), Fail> {
     Ok(())
 }
 
+// Three readings, one after another.
+fn readings(mut clock: impl Clock + Drop) -> [u64; 3] {
+    [clock.now(), clock.now(), clock.now()]
+}
+
 // A set clock stays, and a step clock stays at its end.
 #[test]
-fn clocks_tell_readings(rt: HostRuntime) -> Result<(), Fail> {
-    let mut set = SetClock { reading: 7 };
-    assert_eq!(rt; [set.now(), set.now()], [7, 7]);
-    let mut step = StepClock {
-        reading: u64::MAX - 1,
-    };
-    assert_eq!(rt; [step.now(), step.now()], [u64::MAX - 1, u64::MAX]);
-    assert_eq!(rt; step.now(), u64::MAX);
+fn clocks_tell_readings(rt: HostRuntime) {
+    let last = u64::MAX;
+    assert_eq!(rt; readings(SetClock { reading: 7 }), [7; 3]);
+    assert_eq!(rt;
+        readings(StepClock { reading: last - 1 }),
+        [last - 1, last, last]
+    );
+}
+
+#[test]
+fn an_update_is_taken_with_nobody_told(rt: HostRuntime) -> Result<(), Fail> {
     let mut hub = Awareness::new(1)?;
-    hub.apply_update(
-        &ArrivedUpdate::read(b"\x01\x07\x03\x01a")?,
-        &mut set,
-        &mut Nobody,
-    )?;
+    let update = ArrivedUpdate::read(b"\x01\x07\x03\x01a")?;
+    hub.apply_update(&update, &mut SetClock { reading: 7 }, &mut Nobody)?;
     assert_eq!(rt; hub.records().len(), 1);
     Ok(())
 }

@@ -58,6 +58,8 @@ pub data Asked : Type 0 where
   set : List ℕ → Asked
   clean : Asked
   remove : ℕ → Asked
+  step1 : Asked
+  start : Asked
   show : ℕ → Asked
   list : List ℕ → Asked
   write : Told → Asked
@@ -79,6 +81,8 @@ heard (call.Apply part) = apply part.now
 heard (call.Set part) = set part.now
 heard call.Clean = clean
 heard (call.Remove n) = remove n
+heard call.Step1 = step1
+heard call.Start = start
 heard (call.Show n) = show n
 heard (call.List part) = list part.now
 heard (call.Write m) = write (told m)
@@ -164,6 +168,8 @@ named name rest =
     else if bytes_eq name (codes "set") then Ok (set rest)
     else if bytes_eq name (codes "clean") then alone clean rest
     else if bytes_eq name (codes "remove") then made remove (numbered rest)
+    else if bytes_eq name (codes "step1") then alone step1 rest
+    else if bytes_eq name (codes "start") then alone start rest
     else if bytes_eq name (codes "show") then made show (numbered rest)
     else if bytes_eq name (codes "list") then Ok (list rest)
     else if bytes_eq name (codes "write") then made write (worded rest)

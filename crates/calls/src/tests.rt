@@ -1,4 +1,5 @@
-// Examples of faults in numbers, layers and words, and of the two policies.
+// Examples of faults in numbers, layers and words, of refusals, and of the two policies.
+use crate::answer::{Handled, Refusal};
 use crate::fault::{Fault, Layer, PolicyFault};
 use crate::policy::{DefaultPolicy, Policy, TagRanges};
 use awareness::fault::{AwarenessFault, PresenceFault};
@@ -87,6 +88,81 @@ fn faults_of_a_layer_are_those_of_all(rt: HostRuntime) {
     assert_eq!(rt; Fault::from(BufferTooShort), Fault::Buffer);
     assert_eq!(rt; Fault::from(AwarenessFault::Short), Fault::Buffer);
     assert_eq!(rt; Fault::from(WriteFault::Short), Fault::Buffer);
+}
+
+// A handle of two messages, which came to byte 7 and has 3 bytes of replies.
+const DONE: Handled = Handled {
+    messages: 2,
+    place: 7,
+    replies: 3,
+};
+
+// The refusal of the message after them.
+fn refusal_of_the_third(fault: Fault) -> Refusal {
+    Refusal {
+        fault,
+        message: 2,
+        place: 7,
+        replies: 3,
+    }
+}
+
+#[test]
+fn a_refusal_tells_what_is_done(rt: HostRuntime) {
+    for fault in all_faults() {
+        assert_eq!(rt; DONE.refused(fault), refusal_of_the_third(fault));
+    }
+}
+
+#[test]
+fn only_a_cut_is_no_refusal(rt: HostRuntime) {
+    let table = [
+        (WireFault::InvalidVarInt, false),
+        (WireFault::EndOfBuffer, true),
+        (WireFault::UnexpectedValue, false),
+        (WireFault::InvalidClientId, false),
+        (WireFault::TooManyEntries, false),
+        (WireFault::TextTooLong, false),
+    ];
+    for (fault, cut) in table {
+        let answer = if cut {
+            Ok(DONE)
+        } else {
+            Err(refusal_of_the_third(Fault::Wire(fault)))
+        };
+        assert_eq!(rt; DONE.stopped(fault), answer, "at {}", fault.number());
+    }
+}
+
+// A refusal outside of a handle.
+fn alone(fault: Fault) -> Refusal {
+    Refusal {
+        fault,
+        message: 0,
+        place: 0,
+        replies: 0,
+    }
+}
+
+#[test]
+fn outside_of_a_handle_a_refusal_has_no_place(rt: HostRuntime) {
+    let wire = WireFault::InvalidClientId;
+    let presence = PresenceFault::ClientNotFound;
+    let table = [
+        (Refusal::from(Fault::Buffer), Fault::Buffer),
+        (Refusal::from(wire), Fault::Wire(wire)),
+        (Refusal::from(AwarenessFault::Wire(wire)), Fault::Wire(wire)),
+        (
+            Refusal::from(AwarenessFault::Presence(presence)),
+            Fault::Presence(presence),
+        ),
+        (Refusal::from(AwarenessFault::Short), Fault::Buffer),
+        (Refusal::from(WriteFault::Wire(wire)), Fault::Wire(wire)),
+        (Refusal::from(WriteFault::Short), Fault::Buffer),
+    ];
+    for (refusal, fault) in table {
+        assert_eq!(rt; refusal, alone(fault));
+    }
 }
 
 #[test]

@@ -1,13 +1,16 @@
 // Answers in words.
+use crate::asked::Asked;
+use crate::places::Told;
 use awareness::record::Record;
-use calls::answer::{Handled, Refusal};
+use calls::answer::Refusal;
 use calls::fault::Fault;
+use driven::driven::{Driven, Setup};
 use driven::layer::LayerName;
-use driven::setup::Setup;
 use hexadecimal::Hex;
 use hexadecimal::shown::{Counted, Shown};
+use hub::run::Answer;
 use state_vector::keyed::Keyed;
-use state_vector::vector::{StateVector, VectorEntry};
+use state_vector::vector::VectorEntry;
 use std::alloc::Global;
 use std::fmt;
 use std::fmt::Write;
@@ -28,6 +31,8 @@ const HELP: &str =
   set TEXT             the own state
   clean                the own client becomes null
   remove ID            a client becomes null
+  step1                the document's vector as a step 1 message
+  start                the same, and all live records after it
   show ID              what is held of a client
   list ID ..           the update of these clients
   write step1 ID:CLOCK ..
@@ -39,9 +44,29 @@ const HELP: &str =
   document             the document's vector, and its update for whoever knows nothing
   help                 this
 an empty line, or one that begins with #, is no call
+in one run of a whole file, as console --run FILE makes it, own, document, policy, clock, room and places stand before the first call;
+room and places are then for all calls together, without them as much as 1024 bytes and 64 places for each call;
+write, records, the document that is shown and help are left out, as they are no calls of a hub that a run makes
 ";
 
-// What a line is answered.
+// A refusal: the fault by its number, its layer and its words, and what the document's host met by its number.
+#[derive(Clone, Copy)]
+pub struct Refused(pub Fault);
+
+impl fmt::Display for Refused {
+    // The refusal in words.
+    fn fmt<W: fmt::Write>(&self, f: &mut fmt::Formatter<W>) -> fmt::Result {
+        let Refused(fault) = *self;
+        let (number, layer) = (fault.number(), LayerName(fault.layer()));
+        write!(f, "refused with {number} ({layer}: {fault})")?;
+        if let Some(met) = fault.wire() {
+            write!(f, ", met {met} (wire)")?;
+        }
+        Ok(())
+    }
+}
+
+// What is answered.
 #[derive(Drop)]
 pub struct Report {
     text: String,
@@ -88,32 +113,14 @@ impl Report {
         Ok(writeln!(self.text, "room for {room}, lists of {places}")?)
     }
 
-    // A fault by its number, its layer and its words, and what the document's host met by its number.
-    fn add_fault(&mut self, fault: Fault) -> anyhow::Result<()> {
-        let (number, layer) = (fault.number(), LayerName(fault.layer()));
-        write!(self.text, "refused with {number} ({layer}: {fault})")?;
-        if let Some(met) = fault.wire() {
-            write!(self.text, ", met {met} (wire)")?;
-        }
-        Ok(())
-    }
-
     // A call that is refused.
-    pub fn add_refusal(&mut self, refusal: Refusal) -> anyhow::Result<()> {
-        self.add_fault(refusal.fault)?;
-        Ok(writeln!(self.text)?)
-    }
-
-    // What was done, or why it was not.
-    pub fn add_done(&mut self, answer: Result<(), Refusal>, done: &str) -> anyhow::Result<()> {
-        match answer {
-            Ok(()) => Ok(writeln!(self.text, "{done}")?),
-            Err(refusal) => self.add_refusal(refusal),
-        }
+    pub fn add_refusal(&mut self, fault: Fault) -> anyhow::Result<()> {
+        let refused = Refused(fault);
+        Ok(writeln!(self.text, "{refused}")?)
     }
 
     // Bytes by what they are and how many, then the bytes.
-    fn add_hex(&mut self, name: &str, bytes: &[u8]) -> anyhow::Result<()> {
+    fn add_hex<N: fmt::Display + Drop>(&mut self, name: N, bytes: &[u8]) -> anyhow::Result<()> {
         let size = Counted(bytes.len(), "byte");
         write!(self.text, "{name}, {size}")?;
         if !bytes.is_empty() {
@@ -124,49 +131,57 @@ impl Report {
     }
 
     // What was written to the front of the room, or why nothing was.
-    pub fn add_bytes(
+    pub fn add_message(
         &mut self,
-        name: &str,
         written: Result<usize, Refusal>,
         out: &[u8],
     ) -> anyhow::Result<()> {
         match written {
-            Ok(len) => self.add_hex(name, out.get(..len).unwrap_or_default()),
-            Err(refusal) => self.add_refusal(refusal),
+            Ok(len) => self.add_hex("message", out.get(..len).unwrap_or_default()),
+            Err(refusal) => self.add_refusal(refusal.fault),
         }
     }
 
-    // How far messages were handled, with their replies, and where there was a refusal.
-    pub fn add_handled(
+    // What a call is answered, with the bytes and the clients that belong to the answer.
+    pub fn add_answer(
         &mut self,
-        answer: Result<Handled, Refusal>,
-        out: &[u8],
+        asked: &Asked<'_>,
+        answer: &Answer,
+        told: Told<'_>,
     ) -> anyhow::Result<()> {
-        let len = match answer {
-            Ok(done) => {
+        match answer {
+            Answer::Handled(Ok(done)) => {
                 let (messages, place) = (Counted(done.messages, "message"), done.place);
                 write!(self.text, "handled {messages}, place {place}; ")?;
-                done.replies
+                self.add_hex(asked, told.bytes)
             }
-            Err(refusal) => {
-                self.add_fault(refusal.fault)?;
-                let (message, place) = (refusal.message, refusal.place);
-                write!(self.text, " at message {message}, byte {place}; ")?;
-                refusal.replies
+            Answer::Handled(Err(refusal)) => {
+                let (refused, place) = (Refused(refusal.fault), refusal.place);
+                let message = refusal.message;
+                write!(self.text, "{refused} at message {message}, byte {place}; ")?;
+                self.add_hex(asked, told.bytes)
             }
-        };
-        self.add_hex("replies", out.get(..len).unwrap_or_default())
+            Answer::Applied(_) => self.add_applied(asked, told),
+            Answer::Done => Ok(writeln!(self.text, "{asked}")?),
+            Answer::Written(_) => self.add_hex(asked, told.bytes),
+            Answer::Shown(held) => self.add_shown(asked, held.as_ref()),
+            Answer::Refused(fault) => self.add_refusal(*fault),
+        }
     }
 
-    // A presence update that was taken; the lists follow.
-    pub fn add_applied(&mut self) -> anyhow::Result<()> {
-        Ok(writeln!(self.text, "applied")?)
+    // A presence update that was taken, with the clients by what it did to them.
+    fn add_applied(&mut self, asked: &Asked<'_>, told: Told<'_>) -> anyhow::Result<()> {
+        writeln!(self.text, "{asked}")?;
+        self.add_clients("added", told.added)?;
+        self.add_clients("updated", told.updated)?;
+        self.add_clients("changed", told.changed)?;
+        self.add_clients("removed", told.removed)
     }
 
     // A list of clients.
-    pub fn add_clients(&mut self, name: &str, clients: Option<&[u64]>) -> anyhow::Result<()> {
+    fn add_clients(&mut self, name: &str, clients: &[u64]) -> anyhow::Result<()> {
         write!(self.text, "  {name}:")?;
-        for client in clients.unwrap_or_default() {
+        for client in clients {
             write!(self.text, " {client}")?;
         }
         Ok(writeln!(self.text)?)
@@ -185,22 +200,17 @@ impl Report {
     }
 
     // What is held of a client.
-    pub fn add_shown(
-        &mut self,
-        client: u64,
-        answer: Result<Option<&Record>, Refusal>,
-    ) -> anyhow::Result<()> {
-        match answer {
-            Ok(None) => Ok(writeln!(self.text, "client {client} is not held")?),
-            Ok(Some(record)) => {
+    fn add_shown(&mut self, asked: &Asked<'_>, held: Option<&Record>) -> anyhow::Result<()> {
+        match held {
+            None => Ok(writeln!(self.text, "{asked} is not held")?),
+            Some(record) => {
                 let state = self.state_of(record)?;
                 let (clock, time) = (record.clock(), record.time());
                 Ok(writeln!(
                     self.text,
-                    "client {client}, clock {clock}, state {state}, time {time}"
+                    "{asked}, clock {clock}, state {state}, time {time}"
                 )?)
             }
-            Err(refusal) => self.add_refusal(refusal),
         }
     }
 
@@ -237,13 +247,29 @@ impl Report {
     }
 
     // The document's vector, and its update for whoever knows nothing.
-    pub fn add_document(&mut self, vector: &StateVector, update: &[u8]) -> anyhow::Result<()> {
+    pub fn add_document<D: Driven>(&mut self, hub: &D) -> anyhow::Result<()> {
+        let heap = *self.text.allocator();
+        let mut update = vec![in heap; 0u8; hub.update_len()]?;
+        hub.update(update.as_mut_slice())?;
         write!(self.text, "vector:")?;
-        for e in vector.entries() {
+        for e in hub.vector().entries() {
             let VectorEntry { client, clock } = *e;
             write!(self.text, " {client}:{clock}")?;
         }
         write!(self.text, "; ")?;
-        self.add_hex("update", update)
+        self.add_hex("update", update.as_slice())
+    }
+
+    // The line whose answer follows.
+    pub fn add_line(&mut self, number: u64) -> anyhow::Result<()> {
+        Ok(write!(self.text, "line {number}: ")?)
+    }
+
+    // What a hub holds when a run is over.
+    pub fn add_end<D: Driven>(&mut self, hub: &D) -> anyhow::Result<()> {
+        write!(self.text, "in the end: ")?;
+        self.add_records(hub.records())?;
+        write!(self.text, "in the end: ")?;
+        self.add_document(hub)
     }
 }

@@ -1,21 +1,17 @@
 // A hub and what is asked of it, line by line.
-use crate::messages::{read_clients, write_words};
+use crate::asked::Asked;
+use crate::messages::write_words;
+use crate::places::{Places, size_of};
 use crate::report::Report;
-use anyhow::ensure;
-use awareness::summary::ChangeLists;
 use call_line::call::{Call, read_call};
-use driven::driven::Driven;
-use driven::setup::{Setup, Ticking};
-use hexadecimal::parse_line;
+use driven::driven::{Driven, Setup, Ticking};
 use product::fresh_hub;
 use std::alloc::Global;
 
-// The most bytes of room, and places, that may be asked for.
-const MOST: u64 = 1 << 20;
-
-// The caller's room for bytes and places for lists.
+// What a hub is made of, and the caller's room for bytes and places for lists.
 #[derive(Clone, Copy)]
-pub struct Sizes {
+pub struct State {
+    pub setup: Setup,
     pub room: usize,
     pub places: usize,
 }
@@ -24,38 +20,30 @@ pub struct Sizes {
 #[derive(Drop)]
 pub struct Session<D> {
     heap: Global,
+    state: State,
     hub: D,
-    setup: Setup,
-    sizes: Sizes,
     next: Option<Setup>,
-}
-
-// A number of bytes or places.
-fn size_of(number: u64) -> anyhow::Result<usize> {
-    ensure!(number <= MOST, "at most {MOST} are given");
-    Ok(number as usize)
 }
 
 impl<D: Driven> Session<D> {
     // A hub at its first call.
-    pub fn new(heap: Global, hub: D, setup: Setup, sizes: Sizes) -> Session<D> {
+    pub fn new(heap: Global, hub: D, state: State) -> Session<D> {
         Session {
             heap,
+            state,
             hub,
-            setup,
-            sizes,
             next: None,
         }
     }
 
-    // What the next hub is made of, where a fresh one was asked for.
-    pub fn next(&self) -> Option<Setup> {
-        self.next
-    }
-
-    // The room and the places that there are.
-    pub fn sizes(&self) -> Sizes {
-        self.sizes
+    // What the next hub works with, where a fresh one was asked for.
+    pub fn next(&self) -> Option<State> {
+        let State { room, places, .. } = self.state;
+        self.next.map(|setup| State {
+            setup,
+            room,
+            places,
+        })
     }
 
     // What a line is answered: nothing where it is no call, and an error where it cannot be read.
@@ -64,41 +52,26 @@ impl<D: Driven> Session<D> {
         match read_call(line)? {
             Call::Nothing => {}
             Call::Help => report.add_help()?,
-            Call::Own(own) => self.begin(Setup { own, ..self.setup }, &mut report)?,
-            Call::Host(board) => self.begin(
-                Setup {
-                    board,
-                    ..self.setup
-                },
-                &mut report,
-            )?,
-            Call::Policy(rules) => self.begin(
-                Setup {
-                    rules,
-                    ..self.setup
-                },
-                &mut report,
-            )?,
-            Call::ClockStep(first) => {
-                let clock = Ticking::Step(first);
-                self.begin(
-                    Setup {
-                        clock,
-                        ..self.setup
-                    },
-                    &mut report,
-                )?;
-            }
             Call::Clock(reading) => self.set_clock(reading, &mut report)?,
             Call::Room(room) => {
-                self.sizes.room = size_of(room)?;
-                report.add_sizes(self.sizes.room, self.sizes.places)?;
+                self.state.room = size_of(room)?;
+                report.add_sizes(self.state.room, self.state.places)?;
             }
             Call::Places(places) => {
-                self.sizes.places = size_of(places)?;
-                report.add_sizes(self.sizes.room, self.sizes.places)?;
+                self.state.places = size_of(places)?;
+                report.add_sizes(self.state.room, self.state.places)?;
             }
-            call => self.ask(call, &mut report)?,
+            Call::Write(words) => {
+                let mut out = vec![in self.heap; 0u8; self.state.room]?;
+                let written = write_words(self.heap, words, out.as_mut_slice())?;
+                report.add_message(written, out.as_slice())?;
+            }
+            Call::Records => report.add_records(self.hub.records())?,
+            Call::Document => report.add_document(&self.hub)?,
+            call => match self.state.setup.changed(call) {
+                Some(setup) => self.begin(setup, &mut report)?,
+                None => self.ask(call, &mut report)?,
+            },
         }
         Ok(report)
     }
@@ -110,7 +83,7 @@ impl<D: Driven> Session<D> {
                 self.next = Some(setup);
                 report.add_setup(setup)
             }
-            Err(fault) => report.add_refusal(fault.into()),
+            Err(fault) => report.add_refusal(fault),
         }
     }
 
@@ -119,12 +92,12 @@ impl<D: Driven> Session<D> {
         let clock = Ticking::Set(reading);
         let setup = Setup {
             clock,
-            ..self.setup
+            ..self.state.setup
         };
-        match self.setup.clock {
+        match self.state.setup.clock {
             Ticking::Set(_) => {
                 self.hub.set_clock(reading);
-                self.setup = setup;
+                self.state.setup = setup;
                 report.add_clock(reading)
             }
             Ticking::Step(_) => self.begin(setup, report),
@@ -133,79 +106,12 @@ impl<D: Driven> Session<D> {
 
     // A call of the hub.
     fn ask(&mut self, call: Call, report: &mut Report) -> anyhow::Result<()> {
-        match call {
-            Call::Handle(hex) => self.handle(hex, report),
-            Call::Apply(hex) => self.apply(hex, report),
-            Call::Set(text) => report.add_done(self.hub.set(text), "set"),
-            Call::Clean => report.add_done(self.hub.clean(), "cleaned"),
-            Call::Remove(client) => report.add_done(self.hub.remove(client), "removed"),
-            Call::Show(client) => report.add_shown(client, self.hub.show(client)),
-            Call::List(list) => self.list(list, report),
-            Call::Write(words) => {
-                let mut out = self.out()?;
-                let written = write_words(self.heap, words, out.as_mut_slice())?;
-                report.add_bytes("message", written, out.as_slice())
-            }
-            Call::Records => report.add_records(self.hub.records()),
-            _ => self.show_document(report),
-        }
-    }
-
-    // The room for bytes.
-    fn out(&self) -> anyhow::Result<Vec<u8>> {
-        Ok(vec![in self.heap; 0u8; self.sizes.room]?)
-    }
-
-    // The places of one list.
-    fn list_places(&self) -> anyhow::Result<Vec<u64>> {
-        Ok(vec![in self.heap; 0u64; self.sizes.places]?)
-    }
-
-    // Messages, with their replies.
-    fn handle(&mut self, hex: &[u8], report: &mut Report) -> anyhow::Result<()> {
-        let bytes = parse_line(self.heap, hex)?;
-        let mut replies = self.out()?;
-        let answer = self.hub.handle(bytes.as_slice(), replies.as_mut_slice());
-        report.add_handled(answer, replies.as_slice())
-    }
-
-    // A presence update, with the clients by what it did to them.
-    fn apply(&mut self, hex: &[u8], report: &mut Report) -> anyhow::Result<()> {
-        let bytes = parse_line(self.heap, hex)?;
-        let mut added = self.list_places()?;
-        let mut updated = self.list_places()?;
-        let mut changed = self.list_places()?;
-        let mut removed = self.list_places()?;
-        let mut lists = ChangeLists {
-            added: added.as_mut_slice(),
-            updated: updated.as_mut_slice(),
-            changed: changed.as_mut_slice(),
-            removed: removed.as_mut_slice(),
+        let Some(asked) = Asked::read(self.heap, call)? else {
+            return Ok(());
         };
-        match self.hub.apply(bytes.as_slice(), &mut lists) {
-            Ok(counts) => {
-                report.add_applied()?;
-                report.add_clients("added", added.get(..counts.added))?;
-                report.add_clients("updated", updated.get(..counts.updated))?;
-                report.add_clients("changed", changed.get(..counts.changed))?;
-                report.add_clients("removed", removed.get(..counts.removed))
-            }
-            Err(refusal) => report.add_refusal(refusal),
-        }
-    }
-
-    // The update of the clients of a list.
-    fn list(&self, list: &[u8], report: &mut Report) -> anyhow::Result<()> {
-        let clients = read_clients(self.heap, list)?;
-        let mut out = self.out()?;
-        let written = self.hub.list(clients.as_slice(), out.as_mut_slice());
-        report.add_bytes("update", written, out.as_slice())
-    }
-
-    // The document's vector, and its update for whoever knows nothing.
-    fn show_document(&self, report: &mut Report) -> anyhow::Result<()> {
-        let mut bytes = vec![in self.heap; 0u8; self.hub.update_len()]?;
-        self.hub.update(bytes.as_mut_slice())?;
-        report.add_document(&self.hub.vector(), bytes.as_slice())
+        let mut places = Places::new(self.heap, self.state.room, self.state.places)?;
+        let (out, mut lists) = places.parts();
+        let answer = self.hub.call(asked.call(), out, &mut lists);
+        report.add_answer(&asked, &answer, places.told().take(&answer))
     }
 }

@@ -1,39 +1,84 @@
-// The calls of a hub, whatever its document, clock and policy.
+// A hub, whatever its document, clock and policy.
 use awareness::clock::{Clock, SetClock, StepClock};
 use awareness::record::Record;
-use awareness::summary::{AwarenessUpdateSummary, ChangeLists};
-use calls::answer::{Handled, Refusal};
+use awareness::summary::ChangeLists;
+use call_line::call::{Board, Call as LineCall, Rules};
 use calls::policy::Policy;
 use document::host::DocumentHost;
 use encoding::sink::BufferTooShort;
 use hub::hub::Hub;
+use hub::run::{Answer, Call};
 use state_vector::vector::StateVector;
+use std::fmt;
 
-// The calls of a hub.
+// A clock, by its kind and its first reading.
+#[derive(Clone, Copy)]
+pub enum Ticking {
+    Set(u64),
+    Step(u64),
+}
+
+// What a fresh hub is made of.
+#[derive(Clone, Copy)]
+pub struct Setup {
+    pub own: u64,
+    pub board: Board,
+    pub rules: Rules,
+    pub clock: Ticking,
+}
+
+impl Setup {
+    // The hub that ships, of client 1 and with its clock at 0.
+    pub const SHIPPED: Setup = Setup {
+        own: 1,
+        board: Board::Count,
+        rules: Rules::Ranges,
+        clock: Ticking::Set(0),
+    };
+
+    // With what a line sets up, if it is a line that sets up a part of a hub.
+    pub fn changed(self, line: LineCall<'_>) -> Option<Setup> {
+        match line {
+            LineCall::Own(own) => Some(Setup { own, ..self }),
+            LineCall::Host(board) => Some(Setup { board, ..self }),
+            LineCall::Policy(rules) => Some(Setup { rules, ..self }),
+            LineCall::Clock(reading) => Some(Setup {
+                clock: Ticking::Set(reading),
+                ..self
+            }),
+            LineCall::ClockStep(first) => Some(Setup {
+                clock: Ticking::Step(first),
+                ..self
+            }),
+            _ => None,
+        }
+    }
+}
+
+impl fmt::Display for Setup {
+    // The hub in words.
+    fn fmt<W: fmt::Write>(&self, f: &mut fmt::Formatter<W>) -> fmt::Result {
+        let own = self.own;
+        let board = match self.board {
+            Board::Count => "count",
+            Board::Slot => "slot",
+        };
+        let rules = match self.rules {
+            Rules::Default => "default",
+            Rules::Ranges => "ranges",
+        };
+        write!(f, "own {own}, document {board}, policy {rules}, ")?;
+        match self.clock {
+            Ticking::Set(reading) => write!(f, "clock {reading}"),
+            Ticking::Step(reading) => write!(f, "clock step {reading}"),
+        }
+    }
+}
+
+// What is asked of a hub.
 pub trait Driven: Drop {
-    fn handle(&mut self, bytes: &[u8], replies: &mut [u8]) -> Result<Handled, Refusal>;
-
-    fn apply(
-        &mut self,
-        update: &[u8],
-        lists: &mut ChangeLists<'_>,
-    ) -> Result<AwarenessUpdateSummary, Refusal>;
-
-    fn set(&mut self, text: &[u8]) -> Result<(), Refusal>;
-
-    fn clean(&mut self) -> Result<(), Refusal>;
-
-    fn remove(&mut self, client: u64) -> Result<(), Refusal>;
-
-    // The document's vector as step 1.
-    fn step1(&self, out: &mut [u8]) -> Result<usize, Refusal>;
-
-    // Step 1, then all live records.
-    fn start(&self, out: &mut [u8]) -> Result<usize, Refusal>;
-
-    fn show(&self, client: u64) -> Result<Option<&Record>, Refusal>;
-
-    fn list(&self, clients: &[u64], out: &mut [u8]) -> Result<usize, Refusal>;
+    // Makes a call, whichever it is.
+    fn call(&mut self, call: Call<'_>, out: &mut [u8], lists: &mut ChangeLists<'_>) -> Answer;
 
     fn records(&self) -> &[Record];
 
@@ -66,44 +111,8 @@ impl Turned for StepClock {
 }
 
 impl<H: DocumentHost + Drop, C: Turned + Drop, P: Policy + Drop> Driven for Hub<H, C, P> {
-    fn handle(&mut self, bytes: &[u8], replies: &mut [u8]) -> Result<Handled, Refusal> {
-        Hub::handle(self, bytes, replies)
-    }
-
-    fn apply(
-        &mut self,
-        update: &[u8],
-        lists: &mut ChangeLists<'_>,
-    ) -> Result<AwarenessUpdateSummary, Refusal> {
-        Hub::apply(self, update, lists)
-    }
-
-    fn set(&mut self, text: &[u8]) -> Result<(), Refusal> {
-        Hub::set(self, text)
-    }
-
-    fn clean(&mut self) -> Result<(), Refusal> {
-        Hub::clean(self)
-    }
-
-    fn remove(&mut self, client: u64) -> Result<(), Refusal> {
-        Hub::remove(self, client)
-    }
-
-    fn step1(&self, out: &mut [u8]) -> Result<usize, Refusal> {
-        Hub::step1(self, out)
-    }
-
-    fn start(&self, out: &mut [u8]) -> Result<usize, Refusal> {
-        Hub::start(self, out)
-    }
-
-    fn show(&self, client: u64) -> Result<Option<&Record>, Refusal> {
-        Hub::show(self, client)
-    }
-
-    fn list(&self, clients: &[u64], out: &mut [u8]) -> Result<usize, Refusal> {
-        Hub::list(self, clients, out)
+    fn call(&mut self, call: Call<'_>, out: &mut [u8], lists: &mut ChangeLists<'_>) -> Answer {
+        Hub::call(self, call, out, lists)
     }
 
     fn records(&self) -> &[Record] {

@@ -5,3 +5,5 @@ pub mod Walks
 pub mod Untouched
 pub mod Onemore
 pub mod Walked
+pub mod Called
+pub mod Runs

@@ -167,7 +167,7 @@ wrote_within k room (Ok bs) = wrote (fits k room (Ok bs))
 wrote_within k room (Err f) = refused f
 
 -- what was written is no longer than its buffer
-stood_fits : (old new bs : List ℕ) → new ≡ stood old 0 bs → length new ≡ length old → length bs ≤ length old
+pub stood_fits : (old new bs : List ℕ) → new ≡ stood old 0 bs → length new ≡ length old → length bs ≤ length old
 stood_fits old new bs is long = omega (arith, ap length is, long, length-append (take 0 old) (bs ++ drop (0 + length bs) old), length-append bs (drop (0 + length bs) old), length-drop (0 + length bs) old, length-take 0 old)
 
 -- what a call that writes tells, by the bytes that it had to write

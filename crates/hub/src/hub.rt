@@ -6,6 +6,8 @@ ghost use Rattle.message.specs.Message.{Said, means};
 ghost use Rattle.message.specs.Messages.{messages};
 ghost use Rattle.message.specs.Presence.{presence};
 ghost use Rattle.awareness.specs.Calls.{applied, ReadIf};
+ghost use Rattle.awareness.specs.Newest.{Live};
+ghost use Rattle.awareness.specs.Record.{held_of};
 ghost use Rattle.calls.specs.Handling.{asked, queried, settled, handle, one};
 ghost use Rattle.law.specs.Law.{Law};
 ghost use Rattle.hub.specs.Lawful.{Keeps, HandleTold};
@@ -165,10 +167,13 @@ impl<H: DocumentHost, C: Clock, P: Policy> Hub<H, C, P> {
     pub fn handle(&mut self, bytes: &[u8], replies: &mut [u8]) -> Result<Handled, Refusal>
         ensures law { Keeps H.kind H.LIMIT (P.Policy.accepts self.old.policy) (P.Policy.accepts self.new.policy) (HandleTold C.Clock.next C.Clock.leads bytes.now replies.old replies.new self.old.clock self.new.clock result) (hub_of H.kind self.old.presence (H.document self.old.host)) (hub_of H.kind self.new.presence (H.document self.new.host)) }
         ensures handles { Handles C.Clock.next C.Clock.leads H.kind H.LIMIT (P.Policy.accepts self.old.policy) bytes.now (record { hub = hub_of H.kind self.old.presence (H.document self.old.host); clock = self.old.clock; buffer = replies.old }) (record { hub = hub_of H.kind self.new.presence (H.document self.new.host); clock = self.new.clock; buffer = replies.new }) result }
+        ensures own_text_stays { Live (held_of self.old.presence.own self.old.presence.rows) → Live (held_of self.old.presence.own self.new.presence.rows) }
         ensures policy { (m : Said) → P.Policy.accepts self.new.policy m ≡ P.Policy.accepts self.old.policy m }
         ensures host_untouched { none_of updates (messages bytes.now).said ≡ true → self.new.host ≡ self.old.host }
         ensures policy_untouched { none_of for_policy (messages bytes.now).said ≡ true → self.new.policy ≡ self.old.policy }
     {
+        // each client stands once among the records
+        let _records = self.presence.records();
         self.handle_each(bytes, replies)
     }
 

@@ -4,6 +4,7 @@
 pub mod hub;
 pub mod live;
 pub mod presence;
+pub mod run;
 pub mod sync;
 #[cfg(test)]
 mod tests;

@@ -1,10 +1,11 @@
 // Calls of a hub, answered by the proved code in the words that the Rust's answers have.
-use crate::calls::Answer;
+use crate::answer::Answer;
 use crate::words::{Digits, parse_bytes, parse_clients};
 use awareness::record::Record;
 use awareness::summary::ChangeLists;
 use calls::answer::{Handled, Refusal};
 use driven::driven::Driven;
+use hub::run::{self, Call};
 use state_vector::keyed::Keyed;
 use std::fmt::Write;
 
@@ -19,57 +20,64 @@ impl Answer {
         room: &mut [u8],
         words: &[&str],
     ) -> anyhow::Result<()> {
+        let heap = self.heap();
         match *words {
             ["clock", reading] => {
                 hub.set_clock(reading.parse()?);
                 self.add_done(Ok(()))
             }
-            ["handle", bytes] => {
-                let bytes = parse_bytes(self.heap(), bytes)?;
-                let answer = hub.handle(bytes.as_slice(), room);
-                self.add_handled(answer, room)
-            }
-            ["apply", bytes] => self.add_applied(hub, bytes),
-            ["set", text] => {
-                let text = parse_bytes(self.heap(), text)?;
-                self.add_done(hub.set(text.as_slice()))
-            }
-            ["clean"] => self.add_done(hub.clean()),
-            ["remove", client] => self.add_done(hub.remove(client.parse()?)),
-            _ => self.add_look(hub, room, words),
+            ["handle", bytes] => self.ask(hub, Call::Handle(&parse_bytes(heap, bytes)?), room),
+            ["apply", bytes] => self.ask(hub, Call::Apply(&parse_bytes(heap, bytes)?), room),
+            ["set", text] => self.ask(hub, Call::Set(&parse_bytes(heap, text)?), room),
+            ["clean"] => self.ask(hub, Call::Clean, room),
+            ["remove", client] => self.ask(hub, Call::Remove(client.parse()?), room),
+            ["step1"] => self.ask(hub, Call::Step1, room),
+            ["start"] => self.ask(hub, Call::Start, room),
+            ["show", client] => self.ask(hub, Call::Show(client.parse()?), room),
+            ["list", clients] => self.ask(hub, Call::List(&parse_clients(heap, clients)?), room),
+            ["records"] => self.add_records(hub.records()),
+            ["document"] => self.add_document(hub, room),
+            _ => self.add(words),
         }
     }
 
-    // The answer to a call that leaves the hub as it is.
-    fn add_look<D: Driven>(
+    // What a hub answers to a call.
+    fn ask<D: Driven>(
         &mut self,
-        hub: &D,
+        hub: &mut D,
+        call: Call<'_>,
         room: &mut [u8],
-        words: &[&str],
     ) -> anyhow::Result<()> {
-        match *words {
-            ["step1"] => {
-                let written = hub.step1(room);
-                self.add_bytes(written, room)
+        let mut added = [0u64; PLACES];
+        let mut updated = [0u64; PLACES];
+        let mut changed = [0u64; PLACES];
+        let mut removed = [0u64; PLACES];
+        let mut lists = ChangeLists {
+            added: &mut added,
+            updated: &mut updated,
+            changed: &mut changed,
+            removed: &mut removed,
+        };
+        match hub.call(call, room, &mut lists) {
+            run::Answer::Handled(answer) => self.add_handled(answer, room),
+            run::Answer::Applied(lengths) => {
+                self.add_clients("added ", added.get(..lengths.added))?;
+                self.add_clients(" updated ", updated.get(..lengths.updated))?;
+                self.add_clients(" changed ", changed.get(..lengths.changed))?;
+                self.add_clients(" removed ", removed.get(..lengths.removed))
             }
-            ["start"] => {
-                let written = hub.start(room);
-                self.add_bytes(written, room)
-            }
-            ["list", clients] => {
-                let clients = parse_clients(self.heap(), clients)?;
-                let written = hub.list(clients.as_slice(), room);
-                self.add_bytes(written, room)
-            }
-            ["show", client] => self.add_shown(hub.show(client.parse()?)),
-            ["records"] => self.add_records(hub.records()),
-            ["document"] => {
-                write!(self.text, "document ")?;
-                let len = hub.update(room)?;
-                self.add_front(room, len)
-            }
-            _ => self.add(words),
+            run::Answer::Done => self.add_done(Ok(())),
+            run::Answer::Written(len) => self.add_bytes(Ok(len), room),
+            run::Answer::Shown(held) => self.add_shown(held.as_ref()),
+            run::Answer::Refused(fault) => self.add_refusal(fault.into(), &[]),
         }
+    }
+
+    // The document, as the update for whoever knows nothing.
+    fn add_document<D: Driven>(&mut self, hub: &D, room: &mut [u8]) -> anyhow::Result<()> {
+        write!(self.text, "document ")?;
+        let len = hub.update(room)?;
+        self.add_front(room, len)
     }
 
     // What was done, or why it was not.
@@ -97,30 +105,6 @@ impl Answer {
         }
     }
 
-    // A presence update, with the clients by what it did to them.
-    fn add_applied<D: Driven>(&mut self, hub: &mut D, bytes: &str) -> anyhow::Result<()> {
-        let bytes = parse_bytes(self.heap(), bytes)?;
-        let mut added = [0u64; PLACES];
-        let mut updated = [0u64; PLACES];
-        let mut changed = [0u64; PLACES];
-        let mut removed = [0u64; PLACES];
-        let mut lists = ChangeLists {
-            added: &mut added,
-            updated: &mut updated,
-            changed: &mut changed,
-            removed: &mut removed,
-        };
-        match hub.apply(bytes.as_slice(), &mut lists) {
-            Ok(counts) => {
-                self.add_clients("added ", added.get(..counts.added))?;
-                self.add_clients(" updated ", updated.get(..counts.updated))?;
-                self.add_clients(" changed ", changed.get(..counts.changed))?;
-                self.add_clients(" removed ", removed.get(..counts.removed))
-            }
-            Err(refusal) => self.add_refusal(refusal, &[]),
-        }
-    }
-
     // A list of clients, by its name.
     fn add_clients(&mut self, name: &str, clients: Option<&[u64]>) -> anyhow::Result<()> {
         let clients = clients.unwrap_or_default();
@@ -134,14 +118,13 @@ impl Answer {
     }
 
     // What is held of a client.
-    fn add_shown(&mut self, answer: Result<Option<&Record>, Refusal>) -> anyhow::Result<()> {
-        match answer {
-            Ok(None) => Ok(write!(self.text, "none")?),
-            Ok(Some(record)) => {
+    fn add_shown(&mut self, held: Option<&Record>) -> anyhow::Result<()> {
+        match held {
+            None => Ok(write!(self.text, "none")?),
+            Some(record) => {
                 write!(self.text, "record ")?;
                 self.add_record(record)
             }
-            Err(refusal) => self.add_refusal(refusal, &[]),
         }
     }
 

@@ -1,11 +1,10 @@
 // Pairs of a call and the Rust's answer, held against the answers of the proved code.
-use crate::calls::Answer;
+use crate::answer::Answer;
 use crate::counts::Counts;
 use crate::words::parse_setup;
 use anyhow::{bail, ensure};
 use calls::answer::Refusal;
-use driven::driven::Driven;
-use driven::setup::{Setup, Work};
+use driven::driven::{Driven, Setup};
 use encoding::read::check_client_id;
 use std::io::BufRead;
 use std::str;
@@ -104,6 +103,28 @@ impl<'a, T: Print + AllocGlobal, R: BufRead + Drop> Replay<'a, T, R> {
         Ok(())
     }
 
+    // Lets a hub answer each call in turn, up to one that asks for a fresh hub, and stops at the first answer that is not the Rust's.
+    pub fn work<D: Driven>(&mut self, hub: &mut D) -> anyhow::Result<Option<Setup>> {
+        for number in self.number.saturating_add(1)..=u64::MAX {
+            let mut line = Vec::new(self.rt.alloc());
+            if self.input.read_until(b'\n', &mut line)? == 0 {
+                break;
+            }
+            self.number = number;
+            let line = str::from_utf8(line.as_slice())?.trim_ascii_end();
+            match line.strip_prefix("= ") {
+                Some(answer) => self.compare(answer)?,
+                None if line.is_empty() || line.starts_with('#') => {}
+                None => {
+                    if let Some(setup) = self.ask(hub, line)? {
+                        return Ok(Some(setup));
+                    }
+                }
+            }
+        }
+        Ok(None)
+    }
+
     // How many there were; a file without any call shows nothing.
     pub fn finish(self) -> anyhow::Result<Counts> {
         ensure!(self.asked.is_none(), "a call without an answer");
@@ -118,31 +139,4 @@ fn says(answer: &str, wanted: &str) -> bool {
         || answer
             .bytes()
             .eq(wanted.bytes().filter(|byte| *byte != b'+'))
-}
-
-impl<T: Print + AllocGlobal, R: BufRead + Drop> Work for Replay<'_, T, R> {
-    type End = anyhow::Result<Option<Setup>>;
-
-    // Lets a hub answer each call in turn, up to one that asks for a fresh hub, and stops at the first answer that is not the Rust's.
-    fn work<D: Driven>(&mut self, hub: D) -> anyhow::Result<Option<Setup>> {
-        let mut hub = hub;
-        for number in self.number.saturating_add(1)..=u64::MAX {
-            let mut line = Vec::new(self.rt.alloc());
-            if self.input.read_until(b'\n', &mut line)? == 0 {
-                break;
-            }
-            self.number = number;
-            let line = str::from_utf8(line.as_slice())?.trim_ascii_end();
-            match line.strip_prefix("= ") {
-                Some(answer) => self.compare(answer)?,
-                None if line.is_empty() || line.starts_with('#') => {}
-                None => {
-                    if let Some(setup) = self.ask(&mut hub, line)? {
-                        return Ok(Some(setup));
-                    }
-                }
-            }
-        }
-        Ok(None)
-    }
 }

@@ -1,7 +1,7 @@
 // Words of calls and answers: bytes, lists, and what hubs are made of.
 use anyhow::{Context, bail};
 use call_line::call::{Board, Rules};
-use driven::setup::{Setup, Ticking};
+use driven::driven::{Setup, Ticking};
 use hexadecimal::parse_line;
 use message::presence::PresenceEntry;
 use state_vector::vector::VectorEntry;
