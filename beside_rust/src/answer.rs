@@ -3,7 +3,7 @@ use crate::call::{ClockOf, Hex, Listed, Presence, Shown};
 use std::fmt;
 
 /// Why an answer, or a part of it, may not be held against the port's.
-#[derive(Debug, Clone, Copy, PartialEq, Eq)]
+#[derive(Debug, Clone, Copy, PartialEq, Eq, PartialOrd, Ord)]
 pub enum Reason {
     Id,
     Count,
@@ -13,10 +13,24 @@ pub enum Reason {
     Twice,
     BufferEnds,
     NullSet,
-    TextOverNull,
-    OwnRaised,
     CustomTag,
     NotText,
+}
+
+impl Reason {
+    /// The number with which the port refuses, where the reason alone decides it.
+    pub fn number(self) -> Option<u8> {
+        match self {
+            Reason::BufferEnds => Some(2),
+            Reason::NotText => Some(3),
+            Reason::Id => Some(4),
+            Reason::Count => Some(5),
+            Reason::Text => Some(6),
+            Reason::Clients => Some(7),
+            Reason::ClockEnd => Some(8),
+            Reason::Twice | Reason::NullSet | Reason::CustomTag => None,
+        }
+    }
 }
 
 impl fmt::Display for Reason {
@@ -30,10 +44,28 @@ impl fmt::Display for Reason {
             Reason::Twice => "a client twice in one presence update",
             Reason::BufferEnds => "a step 1 or awareness buffer that ends too soon",
             Reason::NullSet => "null set as a text",
-            Reason::TextOverNull => "a text over null",
-            Reason::OwnRaised => "a raised own record",
             Reason::CustomTag => "a custom tag from 128 on, written",
             Reason::NotText => "not UTF-8, which the Rust's types exclude",
+        })
+    }
+}
+
+/// Why the Rust leaves clients out of the lists of an update.
+#[derive(Debug, Clone, Copy, PartialEq, Eq, PartialOrd, Ord)]
+pub enum Otherwise {
+    /// The updated list lacks the own client.
+    OwnRaised,
+    /// The changed list lacks those that came back.
+    TextOverNull,
+    Both,
+}
+
+impl fmt::Display for Otherwise {
+    fn fmt(&self, f: &mut fmt::Formatter) -> fmt::Result {
+        f.write_str(match self {
+            Otherwise::OwnRaised => "a raised own record",
+            Otherwise::TextOverNull => "a text over null",
+            Otherwise::Both => "a raised own record and a text over null",
         })
     }
 }
@@ -42,8 +74,8 @@ impl fmt::Display for Reason {
 #[derive(Debug, Clone, Copy, PartialEq, Eq)]
 pub enum Mark {
     Inside,
-    /// All but the change lists.
-    Lists(Reason),
+    /// All, once the clients are in the lists that the Rust leaves out.
+    Lists(Otherwise),
     Outside(Reason),
     /// The hub's own record or table went astray in an earlier call.
     Astray(Reason),
@@ -105,13 +137,38 @@ impl From<Fault> for Refusal {
     }
 }
 
+/// A client in a list.
+#[derive(Debug, Clone, Copy, PartialEq, Eq)]
+pub enum Told {
+    ByTheRust(u64),
+    /// The Rust leaves it out, and docs/RULES.md has it in.
+    ByTheRule(u64),
+}
+
+impl Told {
+    pub fn client(self) -> u64 {
+        match self {
+            Told::ByTheRust(client) | Told::ByTheRule(client) => client,
+        }
+    }
+}
+
+impl fmt::Display for Told {
+    fn fmt(&self, f: &mut fmt::Formatter) -> fmt::Result {
+        match self {
+            Told::ByTheRust(client) => write!(f, "{client}"),
+            Told::ByTheRule(client) => write!(f, "+{client}"),
+        }
+    }
+}
+
 /// What apply lists, ascending.
 #[derive(Debug, Clone, PartialEq, Eq, Default)]
 pub struct Lists {
-    pub added: Vec<u64>,
-    pub updated: Vec<u64>,
-    pub changed: Vec<u64>,
-    pub removed: Vec<u64>,
+    pub added: Vec<Told>,
+    pub updated: Vec<Told>,
+    pub changed: Vec<Told>,
+    pub removed: Vec<Told>,
 }
 
 /// A record as the hub holds it.

@@ -188,19 +188,6 @@ pub enum Call {
     Updates { kind: Kind, updates: Vec<Hex>, since: Hex },
 }
 
-impl Call {
-    /// Whether it is made on a hub.
-    pub fn needs_hub(&self) -> bool {
-        match self {
-            Call::Hub { .. } | Call::Read(_) | Call::Write(_) | Call::Vector(_) | Call::Presence(_) | Call::Updates { .. } => {
-                false
-            }
-            Call::Clock(_) | Call::Handle(_) | Call::Apply(_) | Call::Set(_) | Call::Clean | Call::Remove(_) => true,
-            Call::Step1 | Call::Start | Call::Show(_) | Call::List(_) | Call::Records | Call::Document => true,
-        }
-    }
-}
-
 impl fmt::Display for Kind {
     fn fmt(&self, f: &mut fmt::Formatter) -> fmt::Result {
         f.write_str(match self {

@@ -1,13 +1,14 @@
 //! A hub around the Rust's awareness and protocol, which answers calls.
-use crate::answer::{Answer, End, Fault, Lists, Mark, Reason, Record, Refusal};
+use crate::answer::{Answer, End, Fault, Lists, Mark, Reason, Record, Refusal, Told};
 use crate::block::ClientID;
 use crate::call::{Call, ClockOf, Hex, Pace, Policy, Shown};
-use crate::judge;
+use crate::judge::{self, Seen};
 use crate::reading;
 use crate::standins::board::Kind;
 use crate::standins::doc::{Doc, ReadTxn, Transact};
 use crate::standins::encoder::{Encode, Encoder, EncoderV1};
 use crate::standins::update::read_updates_as;
+use crate::sync::awareness::AwarenessUpdateSummary;
 use crate::sync::{Awareness, AwarenessUpdate, DefaultProtocol, Error, Message, Protocol, SyncMessage};
 use crate::updates::decoder::Decode;
 use crate::wire::{self, Holds};
@@ -97,6 +98,11 @@ impl Hub {
         Hub { awareness, kind, policy, pace, next_reading, changed, astray }
     }
 
+    /// Whether it may hold another thing than the port's hub.
+    pub fn is_astray(&self) -> bool {
+        self.astray.is_some()
+    }
+
     /// Answers a call that needs a hub.
     pub fn answer(&mut self, call: &Call) -> (Answer, Mark) {
         read_updates_as(self.kind);
@@ -175,32 +181,36 @@ impl Hub {
         let seen = judge::of_update(&self.awareness, &update);
         self.changed.borrow_mut().clear();
         let answer = match self.awareness.apply_update_summary(update) {
-            Ok(summary) => Answer::Lists(self.lists(summary)),
+            Ok(summary) => Answer::Lists(self.lists(summary, &seen)),
             Err(_) => Answer::Unasked,
         };
-        let mark = match (self.outside(by_wire.or(seen.outside), true), seen.lists) {
-            (Mark::Inside, Some(reason)) => Mark::Lists(reason),
+        let mark = match (self.outside(by_wire.or(seen.outside), true), seen.otherwise()) {
+            (Mark::Inside, Some(otherwise)) => Mark::Lists(otherwise),
             (mark, _) => mark,
         };
         (answer, mark)
     }
 
-    /// The lists of a summary, and the changed ones as the subscriber was told them.
-    fn lists(&self, summary: Option<crate::sync::awareness::AwarenessUpdateSummary>) -> Lists {
-        let ids = |clients: Vec<ClientID>| clients.iter().map(ClientID::get).collect();
-        let mut lists = match summary {
-            None => Lists::default(),
-            Some(summary) => Lists {
-                added: ids(summary.added),
-                updated: ids(summary.updated),
-                changed: self.changed.borrow().clone(),
-                removed: ids(summary.removed),
-            },
+    /// The lists of a summary, the changed ones as the subscriber was told them, and the clients that the rules add.
+    fn lists(&self, summary: Option<AwarenessUpdateSummary>, seen: &Seen) -> Lists {
+        let list = |clients: &[u64], by_rule: &[u64]| {
+            let mut told: Vec<_> = clients.iter().map(|&client| Told::ByTheRust(client)).collect();
+            told.extend(by_rule.iter().map(|&client| Told::ByTheRule(client)));
+            told.sort_by_key(|told| told.client());
+            told
         };
-        for list in [&mut lists.added, &mut lists.updated, &mut lists.changed, &mut lists.removed] {
-            list.sort_unstable();
+        let ids = |clients: Vec<ClientID>| clients.iter().map(ClientID::get).collect::<Vec<_>>();
+        // the subscriber is told nothing where there is no summary
+        let (summary, changed) = match summary {
+            Some(summary) => (summary, self.changed.borrow().clone()),
+            None => (AwarenessUpdateSummary { added: Vec::new(), updated: Vec::new(), removed: Vec::new() }, Vec::new()),
+        };
+        Lists {
+            added: list(&ids(summary.added), &[]),
+            updated: list(&ids(summary.updated), &seen.raised),
+            changed: list(&changed, &seen.came_back),
+            removed: list(&ids(summary.removed), &[]),
         }
-        lists
     }
 
     fn set(&mut self, text: &[u8]) -> (Answer, Mark) {

@@ -1,5 +1,5 @@
 //! What of a hub's answer lies outside the comparison because of what the hub holds.
-use crate::answer::Reason;
+use crate::answer::{Otherwise, Reason};
 use crate::block::ClientID;
 use crate::sync::{Awareness, AwarenessUpdate, ClientState};
 use std::collections::HashMap;
@@ -8,12 +8,33 @@ use std::collections::HashMap;
 const MAX_CLIENTS: usize = 64;
 
 /// What was seen of a call before it was made.
-#[derive(Debug, Clone, Copy, Default, PartialEq, Eq)]
+#[derive(Debug, Clone, Default, PartialEq, Eq)]
 pub struct Seen {
     /// why the whole answer, and the hub after it, are outside
     pub outside: Option<Reason>,
-    /// why the change lists are
-    pub lists: Option<Reason>,
+    /// the own client, where the updated list lacks it
+    pub raised: Vec<u64>,
+    /// the clients that the changed list lacks
+    pub came_back: Vec<u64>,
+}
+
+impl Seen {
+    /// Why lists lack clients.
+    pub fn otherwise(&self) -> Option<Otherwise> {
+        match (self.raised.is_empty(), self.came_back.is_empty()) {
+            (true, true) => None,
+            (false, true) => Some(Otherwise::OwnRaised),
+            (true, false) => Some(Otherwise::TextOverNull),
+            (false, false) => Some(Otherwise::Both),
+        }
+    }
+}
+
+/// What one entry does that the Rust lists otherwise, or can't count on.
+enum Odd {
+    ClockEnd,
+    OwnRaised,
+    TextOverNull,
 }
 
 /// The records that a hub holds.
@@ -21,15 +42,15 @@ fn held(awareness: &Awareness) -> HashMap<ClientID, ClientState> {
     awareness.iter().collect()
 }
 
-/// One entry over the record that is held: what the Rust lists otherwise, or can't count on.
-fn of_entry(own: bool, state: &ClientState, clock: u32, null: bool) -> Seen {
+/// One entry over the record that is held.
+fn of_entry(own: bool, state: &ClientState, clock: u32, null: bool) -> Option<Odd> {
     let live = state.data.is_some();
     let over = clock > state.clock || (clock == state.clock && null && live);
     match (null, live) {
-        (true, true) if own && over && clock == u32::MAX => Seen { outside: Some(Reason::ClockEnd), lists: None },
-        (true, true) if own && over => Seen { outside: None, lists: Some(Reason::OwnRaised) },
-        (false, false) if over => Seen { outside: None, lists: Some(Reason::TextOverNull) },
-        _ => Seen::default(),
+        (true, true) if own && over && clock == u32::MAX => Some(Odd::ClockEnd),
+        (true, true) if own && over => Some(Odd::OwnRaised),
+        (false, false) if over => Some(Odd::TextOverNull),
+        _ => None,
     }
 }
 
@@ -41,11 +62,12 @@ pub fn of_update(awareness: &Awareness, update: &AwarenessUpdate) -> Seen {
     for (client, entry) in &update.clients {
         match records.get(client) {
             None => clients += 1,
-            Some(state) => {
-                let entry = of_entry(*client == awareness.client_id(), state, entry.clock, &*entry.json == "null");
-                seen.outside = seen.outside.or(entry.outside);
-                seen.lists = seen.lists.or(entry.lists);
-            }
+            Some(state) => match of_entry(*client == awareness.client_id(), state, entry.clock, &*entry.json == "null") {
+                None => {}
+                Some(Odd::ClockEnd) => seen.outside = Some(Reason::ClockEnd),
+                Some(Odd::OwnRaised) => seen.raised.push(client.get()),
+                Some(Odd::TextOverNull) => seen.came_back.push(client.get()),
+            },
         }
     }
     if clients > MAX_CLIENTS {

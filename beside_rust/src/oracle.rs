@@ -10,6 +10,11 @@ pub struct Oracle {
 }
 
 impl Oracle {
+    /// Whether the hub took what the port's refuses, or otherwise holds another thing.
+    pub fn is_astray(&self) -> bool {
+        self.hub.as_ref().is_some_and(Hub::is_astray)
+    }
+
     pub fn answer(&mut self, call: &Call) -> (Answer, Mark) {
         match call {
             Call::Hub { own, kind, policy, pace, reading } => {

@@ -3,6 +3,7 @@ use crate::answer::{Answer, End, Fault, Mark, Placed, Reason, Taken};
 use crate::block::ClientID;
 use crate::call::{ClockOf, Fields, Hex, Presence, Shown};
 use crate::encoding::read::{Cursor, Error};
+use crate::hub::END_OF_IDS;
 use crate::standins::board::Kind;
 use crate::standins::doc::{Doc, ReadTxn, Transact};
 use crate::standins::update::Update;
@@ -11,7 +12,7 @@ use crate::updates::decoder::{Decode, Decoder, DecoderV1};
 use crate::updates::encoder::Encode;
 use crate::wire::{self, Holds};
 use crate::StateVector;
-use std::collections::HashMap;
+use std::collections::{BTreeSet, HashMap};
 use std::sync::Arc;
 
 /// The number of what the Rust met in reading; none where memory was wanting.
@@ -155,39 +156,49 @@ fn message_of(fields: &Fields) -> Option<Message> {
     })
 }
 
+/// Why entries that are to be written lie outside the comparison, if they do: what the port meets first as it takes them one after another.
+fn outside_of_entries<'a>(entries: impl Iterator<Item = (u64, Option<&'a Hex>)>) -> Option<Reason> {
+    let mut clients = BTreeSet::new();
+    for (client, text) in entries {
+        let text = text.map_or(&[][..], |text| &text.0);
+        clients.insert(client);
+        if client >= END_OF_IDS {
+            return Some(Reason::Id);
+        }
+        if std::str::from_utf8(text).is_err() {
+            return Some(Reason::NotText);
+        }
+        if text.len() > 256 {
+            return Some(Reason::Text);
+        }
+        if clients.len() > 64 {
+            return Some(Reason::Count);
+        }
+    }
+    None
+}
+
 /// Why a message that is to be written lies outside the comparison, if it does.
 fn outside_of_fields(fields: &Fields) -> Option<Reason> {
-    let (clients, texts): (Vec<u64>, Vec<usize>) = match fields {
-        Fields::Step1(entries) => (entries.iter().map(|entry| entry.client).collect(), Vec::new()),
-        Fields::Awareness(entries) => {
-            let len = |entry: &Presence| match &entry.shown {
-                Shown::Null => 0,
-                Shown::Text(text) => text.0.len(),
-            };
-            (entries.iter().map(|entry| entry.at.client).collect(), entries.iter().map(len).collect())
-        }
-        Fields::Custom(128.., _) => return Some(Reason::CustomTag),
-        _ => return None,
-    };
-    if clients.iter().any(|&client| client >= 1 << 53) {
-        return Some(Reason::Id);
+    match fields {
+        Fields::Step1(entries) => outside_of_entries(entries.iter().map(|entry| (entry.client, None))),
+        Fields::Awareness(entries) => outside_of_entries(entries.iter().map(|entry| match &entry.shown {
+            Shown::Null => (entry.at.client, None),
+            Shown::Text(text) => (entry.at.client, Some(text)),
+        })),
+        Fields::Denied(reason) if std::str::from_utf8(&reason.0).is_err() => Some(Reason::NotText),
+        Fields::Custom(128.., _) => Some(Reason::CustomTag),
+        _ => None,
     }
-    if texts.iter().any(|&len| len > 256) {
-        return Some(Reason::Text);
-    }
-    let distinct: std::collections::BTreeSet<_> = clients.iter().collect();
-    (distinct.len() > 64).then_some(Reason::Count)
 }
 
 /// A message, written.
 pub fn write(fields: &Fields) -> (Answer, Mark) {
-    match message_of(fields) {
-        None => (Answer::Unasked, Mark::Outside(Reason::NotText)),
-        Some(message) => {
-            let bytes = wire::messages_in_client_order(&message.encode_v1());
-            (Answer::Bytes(Hex(bytes)), mark(outside_of_fields(fields)))
-        }
-    }
+    let answer = match message_of(fields) {
+        None => Answer::Unasked,
+        Some(message) => Answer::Bytes(Hex(wire::messages_in_client_order(&message.encode_v1()))),
+    };
+    (answer, mark(outside_of_fields(fields)))
 }
 
 fn take(doc: &Doc, bytes: &[u8]) -> Taken {

@@ -30,12 +30,12 @@ fn the_own_client_stays() {
     asks(&[
         ("hub 1 count default step 1", "done | inside"),
         ("apply 0101050161", "added 1 updated - changed - removed - | inside"),
-        ("apply 010105046e756c6c", "added - updated - changed - removed - | lists a raised own record"),
+        ("apply 010105046e756c6c", "added - updated +1 changed - removed - | lists a raised own record"),
         ("apply 010104046e756c6c", "added - updated - changed - removed - | inside"),
         ("show 1", "record 1:6@2:61 | inside"),
         ("clean", "done | inside"),
         ("apply 01010862", "refused 2 layer wire message 0 byte 0 reply - | inside"),
-        ("apply 0101080162", "added - updated 1 changed - removed - | lists a text over null"),
+        ("apply 0101080162", "added - updated 1 changed +1 removed - | lists a text over null"),
         ("show 1", "record 1:8@4:62 | inside"),
     ]);
 }

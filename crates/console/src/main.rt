@@ -1,13 +1,13 @@
 // A hub driven by lines: one call a line, each answered at once in words, or all in one run.
 #![tactic(auto)]
 
-use crate::choice::{Task, with_setup};
-use crate::driven::{Driven, Setup, Turned};
 use crate::script::{PLACES, ROOM, run_script};
 use crate::session::{Session, State};
 use anyhow::bail;
 use calls::policy::Policy;
 use document::host::DocumentHost;
+use driven::choice::{Task, with_setup};
+use driven::driven::{Driven, Setup, Turned};
 use hexadecimal::input::read_input;
 use hub::hub::Hub;
 use std::env;
@@ -16,8 +16,6 @@ use std::io::{BufRead, BufReader};
 use std::rt::{Env, Files};
 
 mod asked;
-mod choice;
-mod driven;
 mod messages;
 mod places;
 mod report;
@@ -106,7 +104,7 @@ struct Answering<'r, 'l, W, R> {
 }
 
 impl<W: Print + AllocGlobal, R: BufRead> Task for Answering<'_, '_, W, R> {
-    type Outcome = Option<State>;
+    type Outcome = anyhow::Result<Option<State>>;
 
     // Lets a fresh hub answer them.
     fn with<H: DocumentHost + Drop, C: Turned + Drop, P: Policy + Drop>(

@@ -3,13 +3,12 @@ use anyhow::Context;
 use call_line::message::MessageWords;
 use call_line::words::read_number;
 use calls::answer::Refusal;
-use encoding::fault::WireFault;
+use driven::writing::{write_awareness, write_step1};
 use hexadecimal::parse_line;
 use hub::writing::write;
 use message::presence::{PresenceEntry, state_of};
-use message::update::{Presence, PresenceUpdate};
 use message::write::Draft;
-use state_vector::vector::{StateVector, VectorEntry};
+use state_vector::vector::VectorEntry;
 use std::alloc::Global;
 
 // The ids of a list, between blanks.
@@ -61,34 +60,6 @@ fn read_presences(heap: Global, list: &str) -> anyhow::Result<Vec<PresenceEntry<
         entries.push(read_presence(word)?)?;
     }
     Ok(entries)
-}
-
-// A vector of entries, put in one after another.
-fn vector_of(entries: &[VectorEntry]) -> Result<StateVector, WireFault> {
-    let mut vector = StateVector::new();
-    for e in entries {
-        vector.put(*e)?;
-    }
-    Ok(vector)
-}
-
-// A presence update of entries, put in one after another.
-fn update_of(entries: &[PresenceEntry]) -> Result<PresenceUpdate, WireFault> {
-    let mut update = PresenceUpdate::new();
-    for e in entries {
-        update.put(Presence::new(*e)?)?;
-    }
-    Ok(update)
-}
-
-// Step 1 of a vector's entries.
-fn write_step1(entries: &[VectorEntry], out: &mut [u8]) -> Result<usize, Refusal> {
-    write(&vector_of(entries)?, out)
-}
-
-// Awareness of presence entries.
-fn write_awareness(entries: &[PresenceEntry], out: &mut [u8]) -> Result<usize, Refusal> {
-    write(&update_of(entries)?, out)
 }
 
 // Writes a message that is given in words, and tells its length, or why it is refused.

@@ -1,10 +1,11 @@
 // Answers in words.
 use crate::asked::Asked;
-use crate::driven::{Driven, Setup};
 use crate::places::Told;
 use awareness::record::Record;
 use calls::answer::Refusal;
-use calls::fault::{Fault, Layer};
+use calls::fault::Fault;
+use driven::driven::{Driven, Setup};
+use driven::layer::LayerName;
 use hexadecimal::Hex;
 use hexadecimal::shown::{Counted, Shown};
 use hub::run::Answer;
@@ -47,23 +48,6 @@ in one run of a whole file, as console --run FILE makes it, own, document, polic
 room and places are then for all calls together, without them as much as 1024 bytes and 64 places for each call;
 write, records, the document that is shown and help are left out, as they are no calls of a hub that a run makes
 ";
-
-// A layer by its name.
-#[derive(Clone, Copy)]
-struct LayerName(Layer);
-
-impl fmt::Display for LayerName {
-    // The name.
-    fn fmt<W: fmt::Write>(&self, f: &mut fmt::Formatter<W>) -> fmt::Result {
-        f.write_str(match self.0 {
-            Layer::Wire => "wire",
-            Layer::Presence => "presence",
-            Layer::Policy => "policy",
-            Layer::Document => "document",
-            Layer::Buffer => "buffer",
-        })
-    }
-}
 
 // A refusal: the fault by its number, its layer and its words, and what the document's host met by its number.
 #[derive(Clone, Copy)]

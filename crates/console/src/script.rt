@@ -1,13 +1,13 @@
 // A whole script, made in one run.
 use crate::asked::Asked;
-use crate::choice::{Task, with_setup};
-use crate::driven::{Setup, Turned};
 use crate::places::{Places, size_of};
 use crate::report::{Refused, Report};
 use anyhow::{bail, ensure};
 use call_line::call::{Call, read_call};
 use calls::policy::Policy;
 use document::host::DocumentHost;
+use driven::choice::{Task, with_setup};
+use driven::driven::{Setup, Turned};
 use hexadecimal::lines::Lines;
 use hub::hub::Hub;
 use hub::run::{Answer, run};
@@ -107,7 +107,7 @@ struct Running<'s, 'a> {
 }
 
 impl Task for Running<'_, '_> {
-    type Outcome = Report;
+    type Outcome = anyhow::Result<Report>;
 
     // Makes the run, and tells each answer with its line, then what the hub holds.
     fn with<H: DocumentHost + Drop, C: Turned + Drop, P: Policy + Drop>(

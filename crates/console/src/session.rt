@@ -1,11 +1,11 @@
 // A hub and what is asked of it, line by line.
 use crate::asked::Asked;
-use crate::driven::{Driven, Setup, Ticking};
 use crate::messages::write_words;
 use crate::places::{Places, size_of};
 use crate::report::Report;
 use anyhow::Context;
 use call_line::call::{Call, read_call};
+use driven::driven::{Driven, Setup, Ticking};
 use product::fresh_hub;
 use std::alloc::Global;
 

@@ -1,9 +1,10 @@
-// Words of calls and answers: bytes and lists.
-use anyhow::Context;
+// Words of calls and answers: bytes, lists, and what hubs are made of.
+use anyhow::{Context, bail};
+use call_line::call::{Board, Rules};
+use driven::driven::{Setup, Ticking};
 use hexadecimal::parse_line;
 use message::presence::PresenceEntry;
-use message::update::{Presence, PresenceUpdate};
-use state_vector::vector::{StateVector, VectorEntry};
+use state_vector::vector::VectorEntry;
 use std::alloc::Global;
 use std::fmt;
 
@@ -49,37 +50,89 @@ fn parse_clock(word: &str) -> anyhow::Result<VectorEntry> {
     })
 }
 
-// A vector of the entries of a list.
-pub fn parse_vector(heap: Global, word: &str) -> anyhow::Result<StateVector> {
-    let mut vector = StateVector::new();
+// The entries of a vector.
+pub fn parse_vector(heap: Global, word: &str) -> anyhow::Result<Vec<VectorEntry>> {
+    let mut entries = Vec::new(heap);
     for item in &parse_list(heap, word)? {
-        vector.put(parse_clock(item)?)?;
+        entries.push(parse_clock(item)?)?;
     }
-    Ok(vector)
+    Ok(entries)
+}
+
+// A client, its clock and what it shows.
+#[derive(Drop)]
+pub struct ShownEntry {
+    at: VectorEntry,
+    text: Option<Vec<u8>>,
+}
+
+impl ShownEntry {
+    // The entry of an update.
+    pub fn entry(&self) -> PresenceEntry<'_> {
+        let VectorEntry { client, clock } = self.at;
+        PresenceEntry {
+            client,
+            clock,
+            state: self.text.as_deref(),
+        }
+    }
 }
 
 // A client, its clock and what it shows, as `7:3:6869` or `7:3:null`.
-fn parse_presence(heap: Global, word: &str) -> anyhow::Result<Presence> {
+fn parse_shown(heap: Global, word: &str) -> anyhow::Result<ShownEntry> {
     let (at, shown) = word
         .rsplit_once(':')
         .context("a client, its clock and what it shows")?;
-    let VectorEntry { client, clock } = parse_clock(at)?;
     let text = match shown {
         "null" => None,
         _ => Some(parse_bytes(heap, shown)?),
     };
-    Ok(Presence::new(PresenceEntry {
-        client,
-        clock,
-        state: text.as_deref(),
-    })?)
+    Ok(ShownEntry {
+        at: parse_clock(at)?,
+        text,
+    })
 }
 
-// A presence update of the entries of a list.
-pub fn parse_update(heap: Global, word: &str) -> anyhow::Result<PresenceUpdate> {
-    let mut update = PresenceUpdate::new();
+// The entries of a presence update.
+pub fn parse_update(heap: Global, word: &str) -> anyhow::Result<Vec<ShownEntry>> {
+    let mut entries = Vec::new(heap);
     for item in &parse_list(heap, word)? {
-        update.put(parse_presence(heap, item)?)?;
+        entries.push(parse_shown(heap, item)?)?;
     }
-    Ok(update)
+    Ok(entries)
+}
+
+// The ids of a list.
+pub fn parse_clients(heap: Global, word: &str) -> anyhow::Result<Vec<u64>> {
+    let mut clients = Vec::new(heap);
+    for item in &parse_list(heap, word)? {
+        clients.push(item.parse()?)?;
+    }
+    Ok(clients)
+}
+
+// What a hub is made of, as `1 count default step 100`.
+pub fn parse_setup(words: &[&str]) -> anyhow::Result<Setup> {
+    let [own, board, rules, pace, reading] = *words else {
+        bail!("a client, a board, a policy, a clock and its reading");
+    };
+    let reading = reading.parse()?;
+    Ok(Setup {
+        own: own.parse()?,
+        board: match board {
+            "count" => Board::Count,
+            "slot" => Board::Slot,
+            _ => bail!("no board that is known"),
+        },
+        rules: match rules {
+            "default" => Rules::Default,
+            "ranges" => Rules::Ranges,
+            _ => bail!("no policy that is known"),
+        },
+        clock: match pace {
+            "set" => Ticking::Set(reading),
+            "step" => Ticking::Step(reading),
+            _ => bail!("no clock that is known"),
+        },
+    })
 }

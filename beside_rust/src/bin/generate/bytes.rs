@@ -9,10 +9,22 @@ pub enum Width {
     Narrow,
 }
 
+/// What bytes are made of.
+#[derive(Clone, Copy)]
+pub struct Scope {
+    pub width: Width,
+    /// the lowest clock where it is narrow
+    pub clock: u64,
+    /// whether there are many entries now and then
+    pub crowds: bool,
+}
+
+pub const WIDE: Scope = Scope { width: Width::Wide, clock: 0, crowds: true };
+pub const NARROW: Scope = Scope { width: Width::Narrow, clock: 0, crowds: true };
+
 const NARROW_CLIENTS: [u64; 5] = [1, 2, 5, 7, 9];
 const CLIENTS: [u64; 13] = [0, 1, 2, 5, 7, 9, 63, 64, 127, 128, 300, 1 << 40, (1 << 53) - 1];
 const PAST_CLIENTS: [u64; 3] = [1 << 53, (1 << 53) + 7, u64::MAX];
-const NARROW_CLOCKS: [u64; 6] = [0, 1, 2, 3, 4, 5];
 const CLOCKS: [u64; 12] = [0, 1, 2, 3, 5, 127, 128, 300, 16384, 65536, 0xffff_fffe, 0xffff_ffff];
 const NOT_TEXTS: [&[u8]; 9] = [
     b"\xff",
@@ -55,40 +67,41 @@ pub fn number(r: &mut Random, value: u64) -> Vec<u8> {
     bytes
 }
 
-pub fn client(r: &mut Random, width: Width) -> u64 {
-    match width {
+pub fn client(r: &mut Random, scope: Scope) -> u64 {
+    match scope.width {
         Width::Narrow => *r.pick(&NARROW_CLIENTS),
         Width::Wide if r.once_in(60) => *r.pick(&PAST_CLIENTS),
         Width::Wide => *r.pick(&CLIENTS),
     }
 }
 
-pub fn clock(r: &mut Random, width: Width) -> u64 {
-    match width {
-        Width::Narrow => *r.pick(&NARROW_CLOCKS),
+pub fn clock(r: &mut Random, scope: Scope) -> u64 {
+    match scope.width {
+        Width::Narrow => scope.clock + r.below(6) as u64,
         Width::Wide if r.once_in(40) => 1 << 32,
         Width::Wide => *r.pick(&CLOCKS),
     }
 }
 
 /// A text, now and then one that is none or is too long.
-pub fn text(r: &mut Random, width: Width) -> Vec<u8> {
-    match r.below(if width == Width::Wide { 60 } else { 1000 }) {
+pub fn text(r: &mut Random, scope: Scope) -> Vec<u8> {
+    match r.below(if scope.width == Width::Wide { 60 } else { 1000 }) {
         0 => vec![b'a'; 257],
         1 => vec![b'a'; 256],
         2 => [&[b'a'; 254][..], b"\xc3\xa9"].concat(),
         3 => [&[b'a'; 256][..], b"\xff"].concat(),
         4 | 5 => r.pick(&NOT_TEXTS).to_vec(),
+        _ if scope.width == Width::Narrow && r.once_in(5) => b"null".to_vec(),
         _ => r.pick(&TEXTS).to_vec(),
     }
 }
 
 /// How many entries: few, now and then as many as there may be and one more.
-fn len(r: &mut Random) -> usize {
+fn len(r: &mut Random, scope: Scope) -> usize {
     match r.below(100) {
-        0 => 64,
-        1 => 65,
-        2 => 20,
+        0 if scope.crowds => 64,
+        1 if scope.crowds => 65,
+        2 if scope.crowds => 20,
         _ => r.below(4),
     }
 }
@@ -113,16 +126,18 @@ fn left_over(r: &mut Random) -> &'static [u8] {
 }
 
 /// A count and so many entries; where there are many, each is of a client of its own, and mostly too in what scripts are made of.
-fn counted(r: &mut Random, width: Width, entry: impl Fn(&mut Random, u64) -> Vec<u8>) -> Vec<u8> {
-    let len = len(r);
+fn counted(r: &mut Random, scope: Scope, entry: impl Fn(&mut Random, u64) -> Vec<u8>) -> Vec<u8> {
+    let len = len(r, scope);
     let count = declared(r, len);
     let mut bytes = number(r, count);
     let first = r.below(NARROW_CLIENTS.len());
-    let repeats = width == Width::Wide || r.once_in(200);
+    // of two crowds one alone fits a hub, and both together do not
+    let crowd = *r.pick(&[0, 0, 40]);
+    let repeats = scope.width == Width::Wide || r.once_in(200);
     for i in 0..len {
         let client = match len {
-            5.. => i as u64,
-            _ if repeats => client(r, width),
+            5.. => crowd + i as u64,
+            _ if repeats => client(r, scope),
             _ => NARROW_CLIENTS[(first + i) % NARROW_CLIENTS.len()],
         };
         let spelt = number(r, client);
@@ -133,17 +148,17 @@ fn counted(r: &mut Random, width: Width, entry: impl Fn(&mut Random, u64) -> Vec
     bytes
 }
 
-pub fn vector(r: &mut Random, width: Width) -> Vec<u8> {
-    counted(r, width, |r, _| {
-        let clock = clock(r, width);
+pub fn vector(r: &mut Random, scope: Scope) -> Vec<u8> {
+    counted(r, scope, |r, _| {
+        let clock = clock(r, scope);
         number(r, clock)
     })
 }
 
-pub fn presence(r: &mut Random, width: Width) -> Vec<u8> {
-    counted(r, width, |r, _| {
-        let clock = clock(r, width);
-        let text = text(r, width);
+pub fn presence(r: &mut Random, scope: Scope) -> Vec<u8> {
+    counted(r, scope, |r, _| {
+        let clock = clock(r, scope);
+        let text = text(r, scope);
         let mut bytes = number(r, clock);
         bytes.extend(number(r, text.len() as u64));
         bytes.extend(text);
@@ -151,13 +166,13 @@ pub fn presence(r: &mut Random, width: Width) -> Vec<u8> {
     })
 }
 
-pub fn counts(r: &mut Random, width: Width) -> Vec<u8> {
-    vector(r, width)
+pub fn counts(r: &mut Random, scope: Scope) -> Vec<u8> {
+    vector(r, scope)
 }
 
-pub fn slots(r: &mut Random, width: Width) -> Vec<u8> {
-    counted(r, width, |r, _| {
-        let clock = if r.once_in(30) { 0 } else { clock(r, width).max(1) };
+pub fn slots(r: &mut Random, scope: Scope) -> Vec<u8> {
+    counted(r, scope, |r, _| {
+        let clock = if r.once_in(30) { 0 } else { clock(r, scope).max(1) };
         let slot = match r.below(25) {
             0 => vec![0xff; 33],
             1 => vec![0xff; 32],
@@ -179,37 +194,37 @@ fn buffer(r: &mut Random, bytes: &[u8]) -> Vec<u8> {
 }
 
 /// An update of either board, or bytes that are none.
-pub fn update(r: &mut Random, width: Width) -> Vec<u8> {
+pub fn update(r: &mut Random, scope: Scope) -> Vec<u8> {
     match r.below(10) {
         0 => (0..r.below(6)).map(|_| r.byte()).collect(),
-        1..=4 => slots(r, width),
-        _ => counts(r, width),
+        1..=4 => slots(r, scope),
+        _ => counts(r, scope),
     }
 }
 
-fn sync(r: &mut Random, width: Width) -> Vec<u8> {
+fn sync(r: &mut Random, scope: Scope) -> Vec<u8> {
     let kind = match r.below(30) {
         0 => *r.pick(&[3, 4, 255, 256]),
         _ => r.below(3) as u64,
     };
-    let held = if kind == 0 { vector(r, width) } else { update(r, width) };
+    let held = if kind == 0 { vector(r, scope) } else { update(r, scope) };
     let mut bytes = number(r, kind);
     bytes.extend(buffer(r, &held));
     bytes
 }
 
-fn auth(r: &mut Random, width: Width) -> Vec<u8> {
+fn auth(r: &mut Random, scope: Scope) -> Vec<u8> {
     let flag = *r.pick(&[0, 0, 1, 2, 127, 128, 255, 256]);
     let mut bytes = number(r, flag);
     if flag == 0 {
-        let reason = text(r, width);
+        let reason = text(r, scope);
         bytes.extend(buffer(r, &reason));
     }
     bytes
 }
 
 /// One message, of any kind.
-pub fn message(r: &mut Random, width: Width) -> Vec<u8> {
+pub fn message(r: &mut Random, scope: Scope) -> Vec<u8> {
     let tag = match r.below(12) {
         0..=3 => 0,
         4..=7 => 1,
@@ -219,12 +234,12 @@ pub fn message(r: &mut Random, width: Width) -> Vec<u8> {
     };
     let mut bytes = number(r, tag);
     bytes.extend(match tag {
-        0 => sync(r, width),
+        0 => sync(r, scope),
         1 => {
-            let held = presence(r, width);
+            let held = presence(r, scope);
             buffer(r, &held)
         }
-        2 => auth(r, width),
+        2 => auth(r, scope),
         3 => Vec::new(),
         _ => {
             let data: Vec<u8> = (0..r.below(4)).map(|_| r.byte()).collect();
@@ -234,9 +249,9 @@ pub fn message(r: &mut Random, width: Width) -> Vec<u8> {
     bytes
 }
 
-/// One to three messages.
-pub fn messages(r: &mut Random, width: Width) -> Vec<u8> {
-    (0..1 + r.below(3)).flat_map(|_| message(r, width)).collect()
+/// So many messages, one after another.
+pub fn messages(r: &mut Random, scope: Scope, len: usize) -> Vec<u8> {
+    (0..len).flat_map(|_| message(r, scope)).collect()
 }
 
 /// Bytes with a place or two changed, left out, doubled or cut off.

@@ -1,12 +1,16 @@
 //! Scripts of calls on a hub.
-use crate::bytes::{self, Width};
+use crate::bytes::{self, Scope, NARROW, WIDE};
 use crate::random::Random;
+use crate::reading::fields;
+use crate::rows::KINDS;
+use crate::spell;
 use beside_rust::call::{Call, Hex, Pace, Policy};
+use beside_rust::oracle::Oracle;
 use beside_rust::standins::board::Kind;
 
 fn fresh(r: &mut Random) -> Call {
     Call::Hub {
-        own: 1,
+        own: *r.pick(&[1, 1, 1, 0, 7, (1 << 53) - 1]),
         kind: *r.pick(&[Kind::Count, Kind::Slot]),
         policy: *r.pick(&[Policy::Default, Policy::Ranges]),
         pace: *r.pick(&[Pace::Set, Pace::Step]),
@@ -14,10 +18,19 @@ fn fresh(r: &mut Random) -> Call {
     }
 }
 
-/// One to three messages, mostly of few clients and low clocks, now and then damaged.
-fn packet(r: &mut Random) -> Vec<u8> {
-    let width = if r.once_in(60) { Width::Wide } else { Width::Narrow };
-    let bytes = bytes::messages(r, width);
+/// How often a script looks at all that its hub holds.
+#[derive(Clone, Copy, PartialEq, Eq)]
+enum Looks {
+    /// after each call that may change it
+    Always,
+    Seldom,
+}
+
+/// A few messages, mostly of few clients, now and then many or damaged.
+fn packet(r: &mut Random, scope: Scope) -> Vec<u8> {
+    let scope = if r.once_in(60) { WIDE } else { scope };
+    let len = if r.once_in(50) { 30 } else { 1 + r.below(3) };
+    let bytes = bytes::messages(r, scope, len);
     if r.once_in(10) {
         bytes::damaged(r, bytes)
     } else {
@@ -26,13 +39,21 @@ fn packet(r: &mut Random) -> Vec<u8> {
 }
 
 fn known(r: &mut Random) -> u64 {
-    bytes::client(r, Width::Narrow)
+    bytes::client(r, NARROW)
 }
 
-fn step(r: &mut Random, pace: Pace) -> Call {
+/// An update of many entries, more and more of which fill a board.
+fn many_parts(r: &mut Random, kind: Kind, scope: Scope) -> Vec<u8> {
+    let first = r.below(60) as u64;
+    let clients = first..first + 1 + r.below(20) as u64;
+    let parts: Vec<_> = clients.map(|client| spell::part(kind, client, scope.clock + 1)).collect();
+    spell::update(&spell::counted(&parts))
+}
+
+fn step(r: &mut Random, kind: Kind, pace: Pace, scope: Scope) -> Call {
     match r.below(40) {
-        0..=14 => Call::Handle(Hex(packet(r))),
-        15..=21 => Call::Apply(Hex(bytes::presence(r, Width::Narrow))),
+        0..=14 => Call::Handle(Hex(packet(r, scope))),
+        15..=21 => Call::Apply(Hex(bytes::presence(r, scope))),
         22..=24 => Call::Set(Hex(r.pick(&[&b"a"[..], b"b", b"", b"\xc3\xa9"]).to_vec())),
         25 => Call::Clean,
         26..=27 => Call::Remove(known(r)),
@@ -42,30 +63,66 @@ fn step(r: &mut Random, pace: Pace) -> Call {
         32..=33 => Call::List((0..r.below(4)).map(|_| known(r)).collect()),
         34 => Call::Document,
         35 if pace == Pace::Set => Call::Clock(r.below(1000) as u64),
-        36 if r.once_in(8) => Call::Set(Hex(bytes::text(r, Width::Wide))),
+        36 if r.once_in(8) => Call::Set(Hex(bytes::text(r, WIDE))),
+        37 => Call::Write(fields(r)),
+        38 if scope.crowds && r.once_in(3) => Call::Handle(Hex(many_parts(r, kind, scope))),
         _ => Call::Records,
     }
 }
 
-/// A long script: a fresh hub, many calls, and a look at all that it holds in the end.
-pub fn long(r: &mut Random, len: usize) -> Vec<Call> {
+/// A fresh hub, many calls, and a look at all that it holds in the end. Clocks go on with the calls.
+fn script(r: &mut Random, len: usize, looks: Looks) -> Vec<Call> {
     let hub = fresh(r);
-    let Call::Hub { pace, .. } = hub else { return Vec::new() };
+    let Call::Hub { kind, pace, .. } = hub else { return Vec::new() };
+    let crowds = r.once_in(2);
     let mut calls = vec![hub];
-    for _ in 0..len {
-        let call = step(r, pace);
-        let look = matches!(call, Call::Handle(_) | Call::Apply(_) | Call::Set(_) | Call::Clean | Call::Remove(_));
-        calls.push(call);
-        if look && r.once_in(2) {
-            calls.push(Call::Records);
+    for i in 0..len {
+        let scope = Scope { clock: i as u64 / 6, crowds, ..NARROW };
+        let call = step(r, kind, pace, scope);
+        match call {
+            _ if looks == Looks::Seldom && !r.once_in(20) => calls.push(call),
+            Call::Handle(_) => calls.extend([call, Call::Records, Call::Document]),
+            Call::Apply(_) | Call::Set(_) | Call::Clean | Call::Remove(_) => calls.extend([call, Call::Records]),
+            _ => calls.push(call),
         }
     }
     calls.extend([Call::Records, Call::Document, Call::Start]);
     calls
 }
 
+/// So many scripts, with a look at the hub after each call that may change it.
+pub fn many(mut r: Random, n: usize, len: usize) -> impl Iterator<Item = Call> {
+    (0..n).flat_map(move |_| script(&mut r, len, Looks::Always))
+}
+
+/// The first call with which the Rust's hub goes its own way.
+fn first_astray(calls: &[Call]) -> Option<usize> {
+    let mut oracle = Oracle::default();
+    calls.iter().position(|call| {
+        oracle.answer(call);
+        oracle.is_astray()
+    })
+}
+
+/// So many scripts, each long, without the calls with which the Rust's hub goes its own way: each of those is left out and the script played anew,
+/// so that all of it is compared.
+pub fn settled(mut r: Random, n: usize, len: usize) -> impl Iterator<Item = Call> {
+    (0..n).flat_map(move |_| {
+        let mut calls = script(&mut r, len, Looks::Seldom);
+        while let Some(i) = first_astray(&calls) {
+            calls.remove(i);
+        }
+        calls
+    })
+}
+
+/// Both boards filled.
+pub fn crowds() -> impl Iterator<Item = Call> {
+    KINDS.into_iter().flat_map(crowd)
+}
+
 /// Sixty-four clients come one after another, then one of them again, and one more.
-pub fn crowd(kind: Kind) -> Vec<Call> {
+fn crowd(kind: Kind) -> Vec<Call> {
     let mut calls = vec![Call::Hub { own: 1, kind, policy: Policy::Default, pace: Pace::Step, reading: 1 }];
     for client in 1..=64 {
         calls.push(Call::Handle(Hex(vec![1, 5, 1, client, 1, 1, b'a'])));

@@ -3,16 +3,21 @@ use crate::words::{Digits, parse_bytes, parse_update, parse_vector};
 use anyhow::bail;
 use boards::count_board::CountBoard;
 use boards::slot_board::SlotBoard;
+use calls::answer::Refusal;
+use calls::fault::Fault;
 use document::fault::DocumentFault;
 use document::host::DocumentHost;
+use driven::layer::LayerName;
+use driven::writing::{write_awareness, write_step1};
 use encoding::entries::Entries;
 use encoding::entries_out::Chosen;
 use encoding::fault::WireFault;
+use hub::writing::write;
 use message::message::Message;
 use message::messages::{End, MessageReader};
 use message::presence::PresenceEntry;
 use message::update::{Presence, PresenceUpdate};
-use message::write::{Draft, Outgoing, write};
+use message::write::{Draft, Outgoing};
 use state_vector::keyed::Keyed;
 use state_vector::vector::{StateVector, VectorEntry};
 use std::alloc::Global;
@@ -24,10 +29,11 @@ const MOST_BYTES: usize = 32768;
 // Bytes that a board's vector has at most: a count and 64 entries of 13.
 const MOST_VECTOR: usize = 1024;
 
-// The answer to a call, as far as it is written.
+// The answer to a call, as far as it is written, and the number that it is refused with.
 #[derive(Drop)]
 pub struct Answer {
     pub text: String,
+    pub refused: Option<u8>,
 }
 
 impl Answer {
@@ -35,11 +41,12 @@ impl Answer {
     pub fn new(heap: Global) -> Answer {
         Answer {
             text: String::new(heap),
+            refused: None,
         }
     }
 
     // The memory that words and bytes are kept in.
-    fn heap(&self) -> Global {
+    pub fn heap(&self) -> Global {
         *self.text.allocator()
     }
 
@@ -51,23 +58,59 @@ impl Answer {
             ["presence", bytes] => self.add_presence(bytes),
             ["updates", "count", updates, since] => self.add_updates::<CountBoard>(updates, since),
             ["updates", "slot", updates, since] => self.add_updates::<SlotBoard>(updates, since),
-            ["write", "step1", entries] => self.add_written(&parse_vector(self.heap(), entries)?),
-            ["write", "awareness", entries] => self.add_written(&parse_update(
-                self.heap(),
-                entries,
-            )?),
+            ["write", "step1", entries] => {
+                let entries = parse_vector(self.heap(), entries)?;
+                let mut out = self.room()?;
+                let written = write_step1(&entries, out.as_mut_slice());
+                self.add_bytes(written, out.as_slice())
+            }
+            ["write", "awareness", entries] => {
+                let shown = parse_update(self.heap(), entries)?;
+                let entries: Vec<PresenceEntry> = shown
+                    .iter()
+                    .map(|e| e.entry())
+                    .collect(self.heap())?;
+                let mut out = self.room()?;
+                let written = write_awareness(&entries, out.as_mut_slice());
+                self.add_bytes(written, out.as_slice())
+            }
             ["write", ref message @ ..] => self.add_draft(message),
             _ => bail!("no call that is known"),
         }
     }
 
-    // A refusal of reading.
-    fn add_fault(&mut self, fault: WireFault) -> anyhow::Result<()> {
-        let number = fault.number();
-        Ok(write!(
-            self.text,
-            "refused {number} layer wire message 0 byte 0 reply -"
-        )?)
+    // A refusal: the fault, its message and that one's first byte, and the replies before it.
+    pub fn add_refusal(&mut self, refusal: Refusal, replies: &[u8]) -> anyhow::Result<()> {
+        let Refusal {
+            fault,
+            message,
+            place,
+            replies: len,
+        } = refusal;
+        self.add_fault(fault)?;
+        if let Some(met) = fault.wire() {
+            write!(self.text, " wire {met}")?;
+        }
+        write!(self.text, " message {message} byte {place} reply ")?;
+        self.add_front(replies, len)
+    }
+
+    // A fault, by its number and layer.
+    fn add_fault(&mut self, fault: Fault) -> anyhow::Result<()> {
+        let (number, layer) = (fault.number(), LayerName(fault.layer()));
+        self.refused = Some(number);
+        Ok(write!(self.text, "refused {number} layer {layer}")?)
+    }
+
+    // Bytes at the front of a buffer, or why there are none.
+    pub fn add_bytes(&mut self, written: Result<usize, Refusal>, out: &[u8]) -> anyhow::Result<()> {
+        match written {
+            Ok(len) => {
+                write!(self.text, "bytes ")?;
+                self.add_front(out, len)
+            }
+            Err(refusal) => self.add_refusal(refusal, &[]),
+        }
     }
 
     // The messages that bytes hold, each at its place, and how they end.
@@ -89,8 +132,8 @@ impl Answer {
             Some(End::Ended) => write!(self.text, "ended")?,
             Some(End::Cut(place)) => write!(self.text, "cut at {place}")?,
             Some(End::Refused(place, fault)) => {
-                let number = fault.number();
-                write!(self.text, "refused {number} layer wire at {place}")?;
+                self.add_fault(fault.into())?;
+                write!(self.text, " at {place}")?;
             }
             // not met: reading went on until no message was left
             None => bail!("more messages follow"),
@@ -120,7 +163,7 @@ impl Answer {
     }
 
     // A comma before every item but the first.
-    fn add_comma(&mut self, i: usize) -> anyhow::Result<()> {
+    pub fn add_comma(&mut self, i: usize) -> anyhow::Result<()> {
         if i > 0 {
             write!(self.text, ",")?;
         }
@@ -128,7 +171,7 @@ impl Answer {
     }
 
     // A list of none is `-`.
-    fn add_none(&mut self, len: usize) -> anyhow::Result<()> {
+    pub fn add_none(&mut self, len: usize) -> anyhow::Result<()> {
         if len == 0 {
             write!(self.text, "-")?;
         }
@@ -171,7 +214,7 @@ impl Answer {
                 write!(self.text, " bytes ")?;
                 self.add_vector_bytes(&vector)
             }
-            Err(fault) => self.add_fault(fault),
+            Err(fault) => self.add_refusal(fault.into(), &[]),
         }
     }
 
@@ -183,7 +226,7 @@ impl Answer {
     }
 
     // The first bytes of a buffer.
-    fn add_front(&mut self, out: &[u8], len: usize) -> anyhow::Result<()> {
+    pub fn add_front(&mut self, out: &[u8], len: usize) -> anyhow::Result<()> {
         match out.get(..len) {
             Some(bytes) => Ok(write!(self.text, "{}", Digits(bytes))?),
             None => bail!("a length past its buffer"),
@@ -198,7 +241,7 @@ impl Answer {
                 write!(self.text, "presence ")?;
                 self.add_entries(&update)
             }
-            Err(fault) => self.add_fault(fault),
+            Err(fault) => self.add_refusal(fault.into(), &[]),
         }
     }
 
@@ -221,10 +264,14 @@ impl Answer {
 
     // A message, written.
     fn add_written<M: Outgoing>(&mut self, message: &M) -> anyhow::Result<()> {
-        let mut out = vec![in self.heap(); 0u8; MOST_BYTES]?;
-        let len = write(message, out.as_mut_slice())?;
-        write!(self.text, "bytes ")?;
-        self.add_front(out.as_slice(), len)
+        let mut out = self.room()?;
+        let written = write(message, out.as_mut_slice());
+        self.add_bytes(written, out.as_slice())
+    }
+
+    // Room for the bytes of a message.
+    fn room(&self) -> anyhow::Result<Vec<u8>> {
+        Ok(vec![in self.heap(); 0u8; MOST_BYTES]?)
     }
 
     // Updates, one after another, on a board that was empty: the document, its vector, and what it would send for a vector.
@@ -237,7 +284,7 @@ impl Answer {
         let since = parse_bytes(heap, since)?;
         let since = match StateVector::read(since.as_slice()) {
             Ok(since) => since,
-            Err(fault) => return self.add_fault(fault),
+            Err(fault) => return self.add_refusal(fault.into(), &[]),
         };
         let mut host = H::new();
         write!(self.text, "updates ")?;
@@ -267,7 +314,7 @@ impl Answer {
 
     // What a host sends for a vector.
     fn add_update<H: DocumentHost>(&mut self, host: &H, since: &StateVector) -> anyhow::Result<()> {
-        let mut out = vec![in self.heap(); 0u8; MOST_BYTES]?;
+        let mut out = self.room()?;
         let len = host.update(since, out.as_mut_slice())?;
         self.add_front(out.as_slice(), len)
     }

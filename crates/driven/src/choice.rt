@@ -16,7 +16,7 @@ pub trait Task {
         self,
         clock: C,
         policy: P,
-    ) -> anyhow::Result<Self::Outcome>;
+    ) -> Self::Outcome;
 }
 
 // Over a host and a policy, with the clock that is asked for.
@@ -24,7 +24,7 @@ fn with_policy<H: DocumentHost + Drop, P: Policy + Drop, T: Task>(
     task: T,
     clock: Ticking,
     policy: P,
-) -> anyhow::Result<T::Outcome> {
+) -> T::Outcome {
     match clock {
         Ticking::Set(reading) => task.with::<H, SetClock, P>(SetClock { reading }, policy),
         Ticking::Step(reading) => task.with::<H, StepClock, P>(StepClock { reading }, policy),
@@ -32,7 +32,7 @@ fn with_policy<H: DocumentHost + Drop, P: Policy + Drop, T: Task>(
 }
 
 // Over a host, with the policy that is asked for.
-fn with_host<H: DocumentHost + Drop, T: Task>(task: T, setup: Setup) -> anyhow::Result<T::Outcome> {
+fn with_host<H: DocumentHost + Drop, T: Task>(task: T, setup: Setup) -> T::Outcome {
     let Setup { rules, clock, .. } = setup;
     match rules {
         Rules::Default => with_policy::<H, DefaultPolicy, T>(task, clock, DefaultPolicy),
@@ -41,7 +41,7 @@ fn with_host<H: DocumentHost + Drop, T: Task>(task: T, setup: Setup) -> anyhow::
 }
 
 // Over the host, the policy and the clock that are asked for.
-pub fn with_setup<T: Task>(task: T, setup: Setup) -> anyhow::Result<T::Outcome> {
+pub fn with_setup<T: Task>(task: T, setup: Setup) -> T::Outcome {
     match setup.board {
         Board::Count => with_host::<Tally<CountBoard>, T>(task, setup),
         Board::Slot => with_host::<Tally<SlotBoard>, T>(task, setup),
