@@ -20,7 +20,7 @@ use message::write::{Outgoing, write_at};
 
 impl<H: DocumentHost, C: Clock, P: Policy> Hub<H, C, P> {
     // The document's vector as a step 1 message at the front of a buffer, and its length.
-    pub(crate) fn step1(&self, out: &mut [u8]) -> Result<usize, Refusal>
+    pub fn step1(&self, out: &mut [u8]) -> Result<usize, Refusal>
         ensures law { Keeps H.kind H.LIMIT (P.Policy.accepts self.now.policy) (P.Policy.accepts self.now.policy) (ToldAs C.Clock.next C.Clock.leads (Call.step1 (length out.old)) (written_answer result out.new) self.now.clock self.now.clock) (hub_of H.kind self.now.presence (H.document self.now.host)) (hub_of H.kind self.now.presence (H.document self.now.host)) }
         ensures written { Put out.old (sent (message_out (step1 (H.kind.vector (H.document self.now.host))))) result out.new }
     {
@@ -28,7 +28,7 @@ impl<H: DocumentHost, C: Clock, P: Policy> Hub<H, C, P> {
     }
 
     // The same, and all live records after it as an awareness message.
-    pub(crate) fn start(&self, out: &mut [u8]) -> Result<usize, Refusal>
+    pub fn start(&self, out: &mut [u8]) -> Result<usize, Refusal>
         ensures law { Keeps H.kind H.LIMIT (P.Policy.accepts self.now.policy) (P.Policy.accepts self.now.policy) (ToldAs C.Clock.next C.Clock.leads (Call.start (length out.old)) (written_answer result out.new) self.now.clock self.now.clock) (hub_of H.kind self.now.presence (H.document self.now.host)) (hub_of H.kind self.now.presence (H.document self.now.host)) }
         ensures written { Put out.old (sent (both (message_out (step1 (H.kind.vector (H.document self.now.host)))) (message_out (awareness (map entry_of (filter live self.now.presence.rows)))))) result out.new }
     {
