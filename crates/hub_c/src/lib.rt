@@ -2,6 +2,12 @@
 #![tactic(auto)]
 
 mod lend;
+mod messages;
 mod place;
+mod presence_hub;
+mod tell;
+mod told;
 
 pub use crate::place::Place;
+pub use crate::presence_hub::PresenceHub;
+pub use crate::told::{HubChanges, HubHandled, HubRecord};
