@@ -4,14 +4,15 @@
 --   made_number   the number of a call that makes a hub
 --   Kept          what only handle changes
 --   Carries       the law goes on with a call
---   Handling, Set, Removed, Cleaned, Shown, Listed, Asked, Started   what each call does
-use Rattle.std.specs.Prelude.{◌≡◌, ℕ, ◌≤◌, Bool, true, false, ◌||◌, cond, List, length, map, filter, Ok, Err, Option, Result, nat_le, is_ok}
+--   enough_in, applied_answer   of an apply, whether each list has its places, and what it tells
+--   Handling, Applied, Set, Removed, Cleaned, Shown, Listed, Asked, Started   what each call does
+use Rattle.std.specs.Prelude.{◌≡◌, ℕ, ◌≤◌, Bool, true, false, ◌||◌, ◌&&◌, cond, List, length, take, map, filter, Ok, Err, Option, Result, nat_le, is_ok}
 use Rattle.std.specs.Result.{result_and}
 use Rattle.encoding.specs.Fields.{client_id}
 use Rattle.message.specs.Messages.{messages}
 use Rattle.message.specs.Presence.{presence}
 use Rattle.message.specs.Writing.{step1, awareness, message_out}
-use Rattle.awareness.specs.Calls.{apply, listing, remove, set}
+use Rattle.awareness.specs.Calls.{apply, listing, remove, set, Settled}
 use Rattle.awareness.specs.Record.{Record, entry_of, held_of, live}
 use Rattle.awareness.specs.Summaries.{lengths_of, over}
 use Rattle.awareness.specs.Changes.{is_added, is_updated, is_changed, is_removed, listed}
@@ -29,7 +30,9 @@ use Rattle.law.specs.Words.{Answer, Call, Lists, Told, applied, both, refused}
 use Rattle.hub.specs.Lawful.{Keeps, HandleTold, ToldAs, done_answer, shown_answer, written_answer}
 use Rattle.hub.specs.Steps.{hub_of, none_of, updates, for_policy, Handles}
 use Rattle.hub_c.specs.Places.{ProductHub, hub_size}
+use Rattle.hub_c.specs.Told.{number_of, shown_told, text_told, told_or}
 use Rattle.hub_c.specs.declared.place.Place.{Place}
+use Rattle.hub_c.specs.declared.told.HubRecord.{HubRecord}
 
 -- what a hub that ships means
 abbrev pub means : ProductHub → Hub counts
@@ -66,12 +69,34 @@ Carries old new Tells = Keeps counts 64 ranges_accept ranges_accept Tells (means
 abbrev pub Tells : ProductHub → ProductHub → Call → Answer → Type 0
 Tells old new call answer = Carries old new (ToldAs next leads call answer old.clock new.clock)
 
+-- each list has 64 places
+abbrev pub enough_in : Lists → Bool
+enough_in l = nat_le 64 (length l.added) && (nat_le 64 (length l.updated) && (nat_le 64 (length l.changed) && nat_le 64 (length l.removed)))
+
+-- what an apply tells: the four lists, as far as their lengths tell
+abbrev pub applied_answer : Result AwarenessUpdateSummary Refusal → Lists → Answer
+applied_answer (Ok n) l = applied (record { added = take n.added l.added; updated = take n.updated l.updated; changed = take n.changed l.changed; removed = take n.removed l.removed })
+applied_answer (Err x) l = refused x.fault
+
 -- messages
 pub record Handling (old new : ProductHub) (bytes buffer then : List ℕ) (r : Result Handled Refusal) : Type 0 where
   pub handles : Handles next leads counts 64 ranges_accept bytes (record { hub = means old; clock = old.clock; buffer = buffer }) (record { hub = means new; clock = new.clock; buffer = then }) r
   pub host : none_of updates (messages bytes).said ≡ true → new.host ≡ old.host
   pub policy : none_of for_policy (messages bytes).said ≡ true → new.policy ≡ old.policy
   pub law : Carries old new (HandleTold next leads bytes buffer then old.clock new.clock r)
+
+-- an update, and the four lists that are told, over the caller's places
+pub record Applied (old new : ProductHub) (update : List ℕ) (places filled : Lists) (r : Result AwarenessUpdateSummary Refusal) : Type 0 where
+  pub settled : Settled
+  pub settled_is : settled ≡ apply (enough_in places) old.presence.own old.clock.reading old.presence.rows (presence update)
+  pub answer : r ≡ lifted (result_and settled.answer (Ok (lengths_of settled.changes)))
+  pub rows : new.presence.rows ≡ settled.rows
+  pub added : filled.added ≡ over (listed is_added settled.changes) places.added
+  pub updated : filled.updated ≡ over (listed is_updated settled.changes) places.updated
+  pub changed : filled.changed ≡ over (listed is_changed settled.changes) places.changed
+  pub removed : filled.removed ≡ over (listed is_removed settled.changes) places.removed
+  pub kept : Kept old new
+  pub law : Tells old new (Call.apply update (enough_in places)) (applied_answer r filled)
 
 -- a text for the own client
 pub record Set (old new : ProductHub) (text : List ℕ) (r : Result (Unit {0}) Refusal) : Type 0 where
@@ -94,10 +119,14 @@ pub record Cleaned (old new : ProductHub) (r : Result (Unit {0}) Refusal) : Type
   pub kept : Kept old new
   pub law : Tells old new Call.clean (done_answer r)
 
--- what is held of a client
-pub record Shown (hub : ProductHub) (client : ℕ) (r : Result (Option Record) Refusal) : Type 0 where
-  pub answer : r ≡ asked_of (result_and (client_id client) (Ok (held_of client hub.presence.rows)))
-  pub law : Tells hub hub (Call.show client) (shown_answer r)
+-- what is held of a client, as C is told it
+pub record Shown (hub : ProductHub) (client : ℕ) (old new : List ℕ) (told then : HubRecord) (n : ℕ) : Type 0 where
+  pub answer : Result (Option Record) Refusal
+  pub held : answer ≡ asked_of (result_and (client_id client) (Ok (held_of client hub.presence.rows)))
+  pub number : n ≡ number_of (shown_told (length old) answer)
+  pub told_of : then ≡ told_or told (shown_told (length old) answer)
+  pub text : new ≡ text_told old answer
+  pub law : Tells hub hub (Call.show client) (shown_answer answer)
 
 -- the update of some clients
 pub record Listed (hub : ProductHub) (clients old new : List ℕ) (r : Result ℕ Refusal) : Type 0 where

@@ -5,6 +5,7 @@ mod lend;
 mod messages;
 mod place;
 mod presence_hub;
+mod records;
 mod tell;
 mod told;
 
