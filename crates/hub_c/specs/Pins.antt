@@ -4,7 +4,7 @@
 --   made_number   the number of a call that makes a hub
 --   Kept          what only handle changes
 --   Carries       the law goes on with a call
---   enough_in, applied_answer   of an apply, whether each list has its places, and what it tells
+--   enough_in, applied_answer, settled, lists_over   of an apply, whether each list has its places, what it tells, does and leaves in them
 --   Handling, Applied, Set, Removed, Cleaned, Shown, Listed, Asked, Started   what each call does
 use Rattle.std.specs.Prelude.{◌≡◌, ℕ, ◌≤◌, Bool, true, false, ◌||◌, ◌&&◌, cond, List, length, take, map, filter, Ok, Err, Option, Result, nat_le, is_ok}
 use Rattle.std.specs.Result.{result_and}
@@ -85,16 +85,19 @@ pub record Handling (old new : ProductHub) (bytes buffer then : List ℕ) (r : R
   pub policy : none_of for_policy (messages bytes).said ≡ true → new.policy ≡ old.policy
   pub law : Carries old new (HandleTold next leads bytes buffer then old.clock new.clock r)
 
--- an update, and the four lists that are told, over the caller's places
+-- what an update does that comes to a hub, with these places for the lists
+abbrev pub settled : ProductHub → List ℕ → Lists → Settled
+settled h update places = apply (enough_in places) h.presence.own h.clock.reading h.presence.rows (presence update)
+
+-- the four lists that it leaves, over the caller's places
+abbrev pub lists_over : Settled → Lists → Lists
+lists_over s places = record { added = over (listed is_added s.changes) places.added; updated = over (listed is_updated s.changes) places.updated; changed = over (listed is_changed s.changes) places.changed; removed = over (listed is_removed s.changes) places.removed }
+
+-- an update, and the four lists that are told
 pub record Applied (old new : ProductHub) (update : List ℕ) (places filled : Lists) (r : Result AwarenessUpdateSummary Refusal) : Type 0 where
-  pub settled : Settled
-  pub settled_is : settled ≡ apply (enough_in places) old.presence.own old.clock.reading old.presence.rows (presence update)
-  pub answer : r ≡ lifted (result_and settled.answer (Ok (lengths_of settled.changes)))
-  pub rows : new.presence.rows ≡ settled.rows
-  pub added : filled.added ≡ over (listed is_added settled.changes) places.added
-  pub updated : filled.updated ≡ over (listed is_updated settled.changes) places.updated
-  pub changed : filled.changed ≡ over (listed is_changed settled.changes) places.changed
-  pub removed : filled.removed ≡ over (listed is_removed settled.changes) places.removed
+  pub answer : r ≡ lifted (result_and (settled old update places).answer (Ok (lengths_of (settled old update places).changes)))
+  pub rows : new.presence.rows ≡ (settled old update places).rows
+  pub lists : filled ≡ lists_over (settled old update places) places
   pub kept : Kept old new
   pub law : Tells old new (Call.apply update (enough_in places)) (applied_answer r filled)
 

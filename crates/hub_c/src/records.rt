@@ -1,12 +1,46 @@
 // The calls of a hub that come to its records, and those that look at them.
-ghost use Rattle.std.specs.Prelude.{◌≡◌, true, false, length};
+ghost use Rattle.std.specs.Prelude.{◌≡◌, true, false, length, Ok};
+ghost use Rattle.std.specs.Result.{result_and};
+ghost use Rattle.awareness.specs.Changes.{is_added, is_updated, is_changed, is_removed, listed};
+ghost use Rattle.awareness.specs.Summaries.{lengths_of, over};
+ghost use Rattle.calls.specs.Refusals.{lifted};
+ghost use Rattle.law.specs.Words.{Call};
 ghost use Rattle.hub_c.specs.Told.{number_of, Answered, changes_told, shown_told, text_told, told_or, unmade};
-ghost use Rattle.hub_c.specs.Pins.{Sound, Applied, Set, Removed, Cleaned, Shown, Listed};
+ghost use Rattle.hub_c.specs.Pins.{enough_in, applied_answer, settled, lists_over, Sound, Kept, Tells, Applied, Set, Removed, Cleaned, Shown, Listed};
 
 use crate::presence_hub::PresenceHub;
 use crate::tell::{UNMADE, number_of, tell_changes, tell_length, tell_shown};
 use crate::told::{HubChanges, HubRecord};
-use awareness::summary::ChangeLists;
+use awareness::summary::{AwarenessUpdateSummary, ChangeLists};
+use calls::answer::Refusal;
+use product::ProductHub;
+
+// An apply whose four lists come by themselves.
+fn apply(
+    hub: &mut ProductHub,
+    update: &[u8],
+    added: &mut [u64],
+    updated: &mut [u64],
+    changed: &mut [u64],
+    removed: &mut [u64],
+) -> Result<AwarenessUpdateSummary, Refusal>
+    ensures answer { result ≡ lifted (result_and (settled hub.old update.now (record { added = added.old; updated = updated.old; changed = changed.old; removed = removed.old })).answer (Ok (lengths_of (settled hub.old update.now (record { added = added.old; updated = updated.old; changed = changed.old; removed = removed.old })).changes))) }
+    ensures rows { hub.new.presence.rows ≡ (settled hub.old update.now (record { added = added.old; updated = updated.old; changed = changed.old; removed = removed.old })).rows }
+    ensures added { added.new ≡ over (listed is_added (settled hub.old update.now (record { added = added.old; updated = updated.old; changed = changed.old; removed = removed.old })).changes) added.old }
+    ensures updated { updated.new ≡ over (listed is_updated (settled hub.old update.now (record { added = added.old; updated = updated.old; changed = changed.old; removed = removed.old })).changes) updated.old }
+    ensures changed { changed.new ≡ over (listed is_changed (settled hub.old update.now (record { added = added.old; updated = updated.old; changed = changed.old; removed = removed.old })).changes) changed.old }
+    ensures removed { removed.new ≡ over (listed is_removed (settled hub.old update.now (record { added = added.old; updated = updated.old; changed = changed.old; removed = removed.old })).changes) removed.old }
+    ensures kept { Kept hub.old hub.new }
+    ensures law { Tells hub.old hub.new (Call.apply update.now (enough_in (record { added = added.old; updated = updated.old; changed = changed.old; removed = removed.old }))) (applied_answer result (lists_over (settled hub.old update.now (record { added = added.old; updated = updated.old; changed = changed.old; removed = removed.old })) (record { added = added.old; updated = updated.old; changed = changed.old; removed = removed.old }))) }
+{
+    let mut lists = ChangeLists {
+        added,
+        updated,
+        changed,
+        removed,
+    };
+    hub.apply(update, &mut lists)
+}
 
 // Takes a presence update, and lists the clients by what it did to them; each list needs 64 places.
 #[unsafe(no_mangle)]
@@ -28,13 +62,8 @@ pub extern "C" fn presence_hub_apply(
     if !hub.made {
         return UNMADE;
     }
-    let mut lists = ChangeLists {
-        added,
-        updated,
-        changed,
-        removed,
-    };
-    tell_changes(hub.place.hub().apply(update, &mut lists), told)
+    let answer = apply(hub.place.hub(), update, added, updated, changed, removed);
+    tell_changes(answer, told)
 }
 
 // Sets the own state: a text, which is null where it spells null.
