@@ -4,7 +4,7 @@
 --   made_number   the number of a call that makes a hub
 --   Kept          what only handle changes
 --   Carries       the law goes on with a call
---   enough_in, applied_answer, settled, lists_over   of an apply, whether each list has its places, what it tells, does and leaves in them
+--   lent, enough_in, applied_answer, settled, lists_over   of an apply, the caller's lists, whether each has its places, what it tells, does and leaves in them
 --   Handling, Applied, Set, Removed, Cleaned, Shown, Listed, Asked, Started   what each call does
 use Rattle.std.specs.Prelude.{◌≡◌, ℕ, ◌≤◌, Bool, true, false, ◌||◌, ◌&&◌, cond, List, length, take, map, filter, Ok, Err, Option, Result, nat_le, is_ok}
 use Rattle.std.specs.Result.{result_and}
@@ -68,6 +68,10 @@ Carries old new Tells = Keeps counts 64 ranges_accept ranges_accept Tells (means
 
 abbrev pub Tells : ProductHub → ProductHub → Call → Answer → Type 0
 Tells old new call answer = Carries old new (ToldAs next leads call answer old.clock new.clock)
+
+-- the caller's four lists
+abbrev pub lent : List ℕ → List ℕ → List ℕ → List ℕ → Lists
+lent a u c r = record { added = a; updated = u; changed = c; removed = r }
 
 -- each list has 64 places
 abbrev pub enough_in : Lists → Bool

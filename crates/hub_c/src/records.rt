@@ -6,7 +6,7 @@ ghost use Rattle.awareness.specs.Summaries.{lengths_of, over};
 ghost use Rattle.calls.specs.Refusals.{lifted};
 ghost use Rattle.law.specs.Words.{Call};
 ghost use Rattle.hub_c.specs.Told.{number_of, Answered, changes_told, shown_told, text_told, told_or, unmade};
-ghost use Rattle.hub_c.specs.Pins.{enough_in, applied_answer, settled, lists_over, Sound, Kept, Tells, Applied, Set, Removed, Cleaned, Shown, Listed};
+ghost use Rattle.hub_c.specs.Pins.{lent, enough_in, applied_answer, settled, lists_over, Sound, Kept, Tells, Applied, Set, Removed, Cleaned, Shown, Listed};
 
 use crate::presence_hub::PresenceHub;
 use crate::tell::{UNMADE, number_of, tell_changes, tell_length, tell_shown};
@@ -24,14 +24,14 @@ fn apply(
     changed: &mut [u64],
     removed: &mut [u64],
 ) -> Result<AwarenessUpdateSummary, Refusal>
-    ensures answer { result ≡ lifted (result_and (settled hub.old update.now (record { added = added.old; updated = updated.old; changed = changed.old; removed = removed.old })).answer (Ok (lengths_of (settled hub.old update.now (record { added = added.old; updated = updated.old; changed = changed.old; removed = removed.old })).changes))) }
-    ensures rows { hub.new.presence.rows ≡ (settled hub.old update.now (record { added = added.old; updated = updated.old; changed = changed.old; removed = removed.old })).rows }
-    ensures added { added.new ≡ over (listed is_added (settled hub.old update.now (record { added = added.old; updated = updated.old; changed = changed.old; removed = removed.old })).changes) added.old }
-    ensures updated { updated.new ≡ over (listed is_updated (settled hub.old update.now (record { added = added.old; updated = updated.old; changed = changed.old; removed = removed.old })).changes) updated.old }
-    ensures changed { changed.new ≡ over (listed is_changed (settled hub.old update.now (record { added = added.old; updated = updated.old; changed = changed.old; removed = removed.old })).changes) changed.old }
-    ensures removed { removed.new ≡ over (listed is_removed (settled hub.old update.now (record { added = added.old; updated = updated.old; changed = changed.old; removed = removed.old })).changes) removed.old }
+    ensures answer { result ≡ lifted (result_and (settled hub.old update.now (lent added.old updated.old changed.old removed.old)).answer (Ok (lengths_of (settled hub.old update.now (lent added.old updated.old changed.old removed.old)).changes))) }
+    ensures rows { hub.new.presence.rows ≡ (settled hub.old update.now (lent added.old updated.old changed.old removed.old)).rows }
+    ensures added { added.new ≡ over (listed is_added (settled hub.old update.now (lent added.old updated.old changed.old removed.old)).changes) added.old }
+    ensures updated { updated.new ≡ over (listed is_updated (settled hub.old update.now (lent added.old updated.old changed.old removed.old)).changes) updated.old }
+    ensures changed { changed.new ≡ over (listed is_changed (settled hub.old update.now (lent added.old updated.old changed.old removed.old)).changes) changed.old }
+    ensures removed { removed.new ≡ over (listed is_removed (settled hub.old update.now (lent added.old updated.old changed.old removed.old)).changes) removed.old }
     ensures kept { Kept hub.old hub.new }
-    ensures law { Tells hub.old hub.new (Call.apply update.now (enough_in (record { added = added.old; updated = updated.old; changed = changed.old; removed = removed.old }))) (applied_answer result (lists_over (settled hub.old update.now (record { added = added.old; updated = updated.old; changed = changed.old; removed = removed.old })) (record { added = added.old; updated = updated.old; changed = changed.old; removed = removed.old }))) }
+    ensures law { Tells hub.old hub.new (Call.apply update.now (enough_in (lent added.old updated.old changed.old removed.old))) (applied_answer result (lists_over (settled hub.old update.now (lent added.old updated.old changed.old removed.old)) (lent added.old updated.old changed.old removed.old))) }
 {
     let mut lists = ChangeLists {
         added,
@@ -57,7 +57,7 @@ pub extern "C" fn presence_hub_apply(
     ensures sound { Sound hub.new.made hub.new.size hub.new.place }
     ensures none { hub.old.made ≡ false → (result ≡ unmade) × (hub.new ≡ hub.old) × (told.new ≡ told.old) }
     ensures lists { hub.old.made ≡ false → (added.new ≡ added.old) × (updated.new ≡ updated.old) × (changed.new ≡ changed.old) × (removed.new ≡ removed.old) }
-    ensures applied { hub.old.made ≡ true → Answered result (λ r. (told.new ≡ changes_told told.old r) × Applied hub.old.place.hub hub.new.place.hub update.now (record { added = added.old; updated = updated.old; changed = changed.old; removed = removed.old }) (record { added = added.new; updated = updated.new; changed = changed.new; removed = removed.new }) r) }
+    ensures applied { hub.old.made ≡ true → Answered result (λ r. (told.new ≡ changes_told told.old r) × Applied hub.old.place.hub hub.new.place.hub update.now (lent added.old updated.old changed.old removed.old) (lent added.new updated.new changed.new removed.new) r) }
 {
     if !hub.made {
         return UNMADE;
