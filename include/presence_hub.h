@@ -16,7 +16,7 @@
 #include <stdint.h>
 
 /* How many bytes a hub takes; presence_hub_size answers the same. */
-#define PRESENCE_HUB_SIZE 20000
+#define PRESENCE_HUB_SIZE 20016
 
 /* Memory for one hub. */
 typedef union presence_hub_memory {
