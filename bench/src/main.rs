@@ -16,7 +16,7 @@ use std::time::Instant;
 static ALLOCATOR: Counting = Counting;
 
 /// Rounds of each workload, of which the best counts.
-const ROUNDS: usize = 15;
+const ROUNDS: usize = 200;
 
 /// What both sides are asked: first what is not measured, then what is.
 struct Work {
@@ -105,35 +105,35 @@ fn line(work: &Work) -> f64 {
 /// Awareness messages of one entry, from so many clients in turn; each brings a text where another was.
 fn awareness(clients: u64, length: usize) -> Work {
     let first = (0..clients).map(|client| bytes::awareness(client, 1, length)).collect();
-    let asked = (0..20000u64).map(|i| bytes::awareness(i % clients, 2 + i / clients, length)).collect();
+    let asked = (0..2000u64).map(|i| bytes::awareness(i % clients, 2 + i / clients, length)).collect();
     Work { name: format!("awareness, {clients} clients, text of {length}"), first, asked, call: Call::Handle }
 }
 
 /// Updates of the board, from so many clients in turn; each raises a count.
 fn board(clients: u64) -> Work {
     let first = (0..clients).map(|client| bytes::board(client, 1)).collect();
-    let asked = (0..20000u64).map(|i| bytes::board(i % clients, 2 + i / clients)).collect();
+    let asked = (0..2000u64).map(|i| bytes::board(i % clients, 2 + i / clients)).collect();
     Work { name: format!("board update, {clients} clients"), first, asked, call: Call::Handle }
 }
 
 /// Queries that are answered with so many clients.
 fn query(clients: u64) -> Work {
     let first = (0..clients).map(|client| bytes::awareness(client, 1, 64)).collect();
-    let asked = (0..2000).map(|_| bytes::query()).collect();
+    let asked = (0..100).map(|_| bytes::query()).collect();
     Work { name: format!("query, {clients} clients, texts of 64"), first, asked, call: Call::Handle }
 }
 
 /// Presence updates that bring each client another text.
 fn apply(clients: u64) -> Work {
     let first = vec![bytes::presence(0..clients, 1, 64)];
-    let asked = (2..1002).map(|clock| bytes::presence(0..clients, clock, 64)).collect();
+    let asked = (2..102).map(|clock| bytes::presence(0..clients, clock, 64)).collect();
     Work { name: format!("apply of {clients} entries, texts of 64"), first, asked, call: Call::Apply }
 }
 
 /// Awareness messages that are read, and whose clock is too low for more.
 fn stale() -> Work {
     let first = (0..63).map(|client| bytes::awareness(client, 9, 256)).collect();
-    let asked = (0..20000u64).map(|i| bytes::awareness(i % 63, 8, 256)).collect();
+    let asked = (0..2000u64).map(|i| bytes::awareness(i % 63, 8, 256)).collect();
     Work { name: "awareness that is only read, texts of 256".to_owned(), first, asked, call: Call::Handle }
 }
 
