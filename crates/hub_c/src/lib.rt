@@ -7,6 +7,8 @@ mod place;
 mod presence_hub;
 mod records;
 mod tell;
+#[cfg(test)]
+mod tests;
 mod told;
 
 pub use crate::place::Place;
