@@ -1,5 +1,6 @@
 pub mod Entered
 pub mod Coming
+pub mod Renewing
 pub mod Judging
 pub mod Walking
 pub mod Newcomers

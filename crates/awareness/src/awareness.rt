@@ -8,12 +8,12 @@ ghost use Rattle.state_vector.specs.Tables.{ascends};
 ghost use Rattle.awareness.specs.Calls.{judged, rise_for, room_for};
 ghost use Rattle.awareness.specs.Record.{Record, Clients, client_of, held_of, Writable};
 ghost use Rattle.awareness.specs.Changes.{change_by, changes, comes, noted, same};
-ghost use Rattle.awareness.specs.Taking.{defies, rises, received, stored, taken};
+ghost use Rattle.awareness.specs.Taking.{defies, plain, rises, received, stored, taken};
 
 use crate::change::Change;
 use crate::fault::PresenceFault;
 use crate::observer::Observer;
-use crate::record::{Record, outranks};
+use crate::record::{Arrival, Record, outranks};
 use crate::standing::Standing;
 use encoding::fault::WireFault;
 use encoding::read::{MAX_ENTRIES, check_client_id};
@@ -148,8 +148,46 @@ impl Awareness {
         self.table.put(come).unwrap();
     }
 
-    // Takes an entry that finds a place, and whose clock can rise where it has to.
-    fn receive(&mut self, e: &ArrivedEntry<'_>, now: u64) -> Change
+    // What an entry does.
+    fn change_of(&self, e: &ArrivedEntry<'_>) -> Change
+        ensures change { result ≡ change_by self.now.own (held_of e.now.client self.now.rows) e.now }
+        ensures ascends { ascends client_of self.now.rows ≡ true }
+    {
+        change_by(self.own, self.table.get(e.client()), e)
+    }
+
+    // Makes the record of an entry's client anew of it, where there is a place.
+    fn renew(&mut self, e: &Arrival<'_>)
+        requires { length (stored self.old.rows (plain e.now.time e.now.entry)) ≤ 64 }
+        ensures rows { self.new.rows ≡ stored self.old.rows (plain e.now.time e.now.entry) }
+        ensures own { self.new.own ≡ self.old.own }
+    {
+        // a look at its state brings in that the entry can be written
+        let _state = e.entry.state();
+        self.table.put_made(e.entry.client(), e).unwrap();
+    }
+
+    // Takes an entry that finds a place, and whose clock can rise where it has to: what `receive_anew` does, with the record made where it lies unless the one held is raised.
+    fn receive(&mut self, e: &Arrival<'_>) -> Change
+        requires room { length (received self.old.own e.now.time self.old.rows e.now.entry) ≤ 64 }
+        requires rises { rises self.old.own (held_of e.now.entry.client self.old.rows) e.now.entry ≡ true }
+        ensures change { result ≡ change_by self.old.own (held_of e.now.entry.client self.old.rows) e.now.entry }
+        ensures rows { self.new.rows ≡ received self.old.own e.now.time self.old.rows e.now.entry }
+        ensures own { self.new.own ≡ self.old.own }
+    {
+        let change = self.change_of(&e.entry);
+        match change {
+            Change::Kept => change,
+            Change::Raised => self.receive_anew(&e.entry, e.time),
+            _ => {
+                self.renew(e);
+                change
+            }
+        }
+    }
+
+    // The same in two steps: what an entry does, and then the record that comes in with it.
+    fn receive_anew(&mut self, e: &ArrivedEntry<'_>, now: u64) -> Change
         requires room { length (received self.old.own now self.old.rows e.now) ≤ 64 }
         requires rises { rises self.old.own (held_of e.now.client self.old.rows) e.now ≡ true }
         ensures change { result ≡ change_by self.old.own (held_of e.now.client self.old.rows) e.now }
@@ -207,8 +245,12 @@ impl Awareness {
         // a look at a field brings in that the records ascend
         let _held = &self.own;
         for e in update.iter() {
-            let change = self.receive(&e, now);
-            seen.note(e.client(), change);
+            let e = Arrival {
+                entry: e,
+                time: now,
+            };
+            let change = self.receive(&e);
+            seen.note(e.entry.client(), change);
         }
     }
 }

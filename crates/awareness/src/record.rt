@@ -11,7 +11,7 @@ use encoding::sink::{BufferTooShort, Sink};
 use message::arrived::ArrivedEntry;
 use message::text::PresenceText;
 use message::update::Presence;
-use state_vector::keyed::Keyed;
+use state_vector::keyed::{Keyed, Renew};
 use state_vector::standing::Standing;
 use std::marker::Model;
 
@@ -93,6 +93,26 @@ impl Keyed for Record {
 
     fn client(&self) -> u64 {
         self.presence.client()
+    }
+}
+
+// An entry that came at a time.
+#[derive(Drop)]
+pub(crate) struct Arrival<'a> {
+    pub(crate) entry: ArrivedEntry<'a>,
+    pub(crate) time: u64,
+}
+
+impl Renew<Arrival<'_>> for Record {
+    ghost made = { λ a. plain a.time a.entry };
+
+    // As the record of the entry, made where a record lies.
+    fn renew(&mut self, from: &Arrival<'_>) {
+        // a look at its state brings in that the entry can be written
+        let _state = from.entry.state();
+        let Record { presence, time } = self;
+        presence.renew(&from.entry);
+        *time = from.time;
     }
 }
 

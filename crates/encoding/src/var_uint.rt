@@ -114,6 +114,26 @@ fn number_in(s: &[u8], room: usize, top: u64) -> Result<(u64, &[u8]), WireFault>
     }
 }
 
+// A number that is at most `top`: what `number_in` answers, with the frequent lengths of one byte and two by themselves.
+fn number(s: &[u8], top: u64) -> Result<(u64, &[u8]), WireFault>
+    requires top { 127 ≤ top }
+    ensures { read result ≡ number_in 10 top s.now }
+{
+    match s {
+        [b, rest @ ..] if *b < 128 => Ok((*b as u64, rest)),
+        [low, high, rest @ ..] if *low >= 128 && *high < 128 => {
+            let low = (*low - 128) as u64;
+            let high = *high as u64;
+            if high <= (top - low) / 128 {
+                Ok((low + 128 * high, rest))
+            } else {
+                Err(WireFault::InvalidVarInt)
+            }
+        }
+        _ => number_in(s, MOST_BYTES, top),
+    }
+}
+
 // The largest number of a width.
 fn top<N: VarInt>() -> u64
     ensures largest { result ≡ 2 ^ N.VarInt.BITS - 1 }
@@ -126,6 +146,6 @@ fn top<N: VarInt>() -> u64
 pub fn read_var<N: VarInt>(s: &[u8]) -> Result<(N, &[u8]), WireFault>
     ensures { read_as N.VarInt.value result ≡ var_uint (2 ^ N.VarInt.BITS - 1) s.now }
 {
-    let (n, rest) = number_in(s, MOST_BYTES, top::<N>())?;
+    let (n, rest) = number(s, top::<N>())?;
     Ok((N::from_u64(n), rest))
 }

@@ -44,6 +44,17 @@ impl PresenceText {
         }
     }
 
+    // Becomes a copy of bytes that have been judged, where it lies.
+    pub(crate) fn renew(&mut self, text: &[u8])
+        requires { presence_text text.now ≡ Ok tt }
+        ensures { self.new ≡ text.now }
+    {
+        self.bytes.truncate(text.len());
+        let (front, back) = text.split_at(self.bytes.len());
+        self.bytes.as_mut_slice().copy_from_slice(front);
+        self.bytes.try_extend_from_slice(back).unwrap();
+    }
+
     // A copy of the text, which cannot fail. By hand, since `Clone` answers that memory may be wanting, and nothing is allocated here.
     pub fn copy(&self) -> PresenceText
         ensures { result ≡ self.now }

@@ -1,10 +1,11 @@
 // A presence update to be written: its entries ascend by client, each client once.
 ghost use Rattle.std.specs.Prelude.{◌≡◌, ◌≤◌, true, [], length, if◌then◌else◌, Ok, Err};
+ghost use Rattle.encoding.specs.Fields.{presence_text};
 ghost use Rattle.std.specs.List.{All};
 ghost use Rattle.std.specs.Option.{option_copied};
 ghost use Rattle.encoding.specs.declared.fault.WireFault.TheVariants.{TooManyEntries};
 ghost use Rattle.state_vector.specs.Tables.{ascends, full, updated};
-ghost use Rattle.message.specs.Owned.{owned_entry};
+ghost use Rattle.message.specs.Owned.{owned_entry, state_text};
 ghost use Rattle.message.specs.Presence.{entry_is};
 ghost use Rattle.message.specs.Writing.{Readable};
 
@@ -36,6 +37,18 @@ impl Model for Presence {
     ghost invariant = { λ p. Readable (record { client = p.client; clock = p.clock; state = p.state }) };
 }
 
+// A state becomes a copy of one that has been judged; a text goes where the text held lies.
+fn renew_state(state: &mut Option<PresenceText>, text: Option<&[u8]>)
+    requires { presence_text (state_text (option_copied text)) ≡ Ok tt }
+    ensures { state.new ≡ option_copied text.entry }
+{
+    match (state.as_mut(), text) {
+        (Some(held), Some(text)) => held.renew(text),
+        (None, Some(text)) => *state = Some(PresenceText::passed(text)),
+        (_, None) => *state = None,
+    }
+}
+
 impl Presence {
     // A copy of an entry that borrows its text: its id is judged, then its text.
     #[tactic(auto, using(crate::proofs::Sound::owned_passes))]
@@ -64,6 +77,20 @@ impl Presence {
             clock: e.clock(),
             state,
         }
+    }
+
+    // Becomes a copy of an entry that has been read, where it lies.
+    pub fn renew(&mut self, e: &ArrivedEntry<'_>)
+        ensures { self.new ≡ e.now }
+    {
+        let Presence {
+            client,
+            clock,
+            state,
+        } = self;
+        *client = e.client();
+        *clock = e.clock();
+        renew_state(state, e.state());
     }
 
     // A copy of what it says, which cannot fail; as `PresenceText::copy`, and no `Clone`.

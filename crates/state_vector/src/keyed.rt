@@ -1,5 +1,5 @@
 // Tables of entries that ascend by client id, at most `N` of them, found, inserted and replaced in place.
-ghost use Rattle.std.specs.Prelude.{◌≡◌, ℕ, ◌≤◌, Bool, true, [], length, insert, nat_le, if◌then◌else◌, MatchResult};
+ghost use Rattle.std.specs.Prelude.{◌≡◌, ℕ, ◌<◌, ◌≤◌, Bool, true, [], length, insert, slice_set, nat_le, if◌then◌else◌, MatchResult};
 ghost use Rattle.std.specs.Option.{option_copied};
 ghost use Rattle.state_vector.specs.Tables.{AnswersBy, ascends, held, always, offered, updated, outcome, Found, Missing};
 
@@ -24,6 +24,16 @@ impl Keyed for u64 {
     fn client(&self) -> u64 {
         *self
     }
+}
+
+// An entry that can be made anew where it lies, of what came.
+pub trait Renew<S>: Keyed {
+    // the entry that is made of it
+    ghost made: { S → Self };
+
+    // Becomes the entry that is made of what came.
+    fn renew(&mut self, from: &S)
+        ensures { self.new ≡ made from.now };
 }
 
 // What became of an entry that came to a table.
@@ -84,6 +94,18 @@ fn insert_at<E: Drop, const N: usize>(
 {
     entries.try_insert(at, e).map_err(|_| TableFull)?;
     Ok(Outcome::Inserted)
+}
+
+// Makes the entry at a place anew.
+fn renew_at<S, E: Renew<S> + Drop, const N: usize>(
+    entries: &mut ArrayVec<E, N>,
+    at: usize,
+    from: &S,
+)
+    requires { at < length entries.old.items }
+    ensures { entries.new.items ≡ slice_set entries.old.items at (E.Renew.made from.now) }
+{
+    entries[at].renew(from);
 }
 
 // At most `N` entries that ascend by client id, which lie in the value itself: nothing is allocated.
@@ -178,6 +200,29 @@ impl<E: Keyed + Drop, const N: usize> Table<E, N> {
         ensures used { self.new ≡ updated E.Keyed.key N self.old e }
     {
         self.bring(e, |_, _| true)
+    }
+}
+
+impl<E: Keyed + Default + Drop, const N: usize> Table<E, N> {
+    // Puts in the entry that is made of what came, as `put` does; where its client is held, it is made where that lies.
+    pub fn put_made<S>(&mut self, client: u64, from: &S) -> Result<Outcome, TableFull>
+    where
+        E: Renew<S>,
+        requires { E.Keyed.key (E.Renew.made from.now) ≡ client }
+        ensures answer { result ≡ outcome E.Keyed.key always N self.old (E.Renew.made from.now) }
+        ensures used { self.new ≡ updated E.Keyed.key N self.old (E.Renew.made from.now) }
+    {
+        match self.find(client) {
+            Ok(at) => {
+                renew_at(&mut self.entries, at, from);
+                Ok(Outcome::Replaced)
+            }
+            Err(at) => {
+                let mut e = E::default();
+                e.renew(from);
+                insert_at(&mut self.entries, at, e)
+            }
+        }
     }
 }
 

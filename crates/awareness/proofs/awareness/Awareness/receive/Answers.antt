@@ -1,14 +1,17 @@
-use Rattle.std.proofs.Common.{◌≤◌, ◌∙◌, refl, sym, subst, length}
-use Rattle.awareness.proofs.Coming.{came_in, came_none}
+use Rattle.std.proofs.Common.{◌≤◌, ◌∙◌, sym, subst, length}
+use Rattle.awareness.proofs.Renewing.{kept_rows, renewed_rows}
 use Rattle.awareness.proofs.awareness.Awareness.receive.Goals as goal
 
-pub store-requires : goal.store-requires
-store-requires c =
-    let i = came_in c.args.self.now c.args.self.now.own c.args.now c.args.self.now.rows c.args.e.now c.in-Some.record c.meet-change.result.1 refl c.meet-change.ensures.ascends c.meet-change.ensures.record c.in-Some.is c.requires.room in
-    subst (λ rows. length rows ≤ 64) (sym i.is) c.requires.room
+pub renew-requires : goal.renew-requires
+renew-requires c =
+    subst (λ rows. length rows ≤ 64) (renewed_rows c.args.self.now.own c.args.e.now.time c.args.e.now.entry c.args.self.now.rows c.change_of-change.ensures.ascends c.change_of-change.result c.change_of-change.ensures.change c.in_default.not-Kept c.in_default.not-Raised) c.requires.room
 
-pub returns-in-Some-clause-rows : goal.returns-in-Some-clause-rows
-returns-in-Some-clause-rows c = c.store.ensures.rows ∙ (came_in c.args.self.now c.args.self.now.own c.args.now c.args.self.now.rows c.args.e.now c.in-Some.record c.meet-change.result.1 refl c.meet-change.ensures.ascends c.meet-change.ensures.record c.in-Some.is c.requires.room).is
+pub returns-in-Kept-clause-rows : goal.returns-in-Kept-clause-rows
+returns-in-Kept-clause-rows c = kept_rows c.args.self.now.own c.args.e.now.time c.args.e.now.entry c.args.self.now.rows c.change_of-change.ensures.ascends c.change_of-change.result c.change_of-change.ensures.change c.in-Kept.is
 
-pub returns-in_default-clause-rows : goal.returns-in_default-clause-rows
-returns-in_default-clause-rows c = came_none c.args.self.now c.args.self.now.own c.args.now c.args.self.now.rows c.args.e.now c.meet-change.result.1 refl c.meet-change.ensures.ascends c.meet-change.ensures.record c.in_default.not-Some
+pub returns-in_default : goal.returns-in_default
+returns-in_default c = record {
+  change = c.change_of-change.ensures.change;
+  rows = c.renew.ensures.rows ∙ sym (renewed_rows c.args.self.now.own c.args.e.now.time c.args.e.now.entry c.args.self.now.rows c.change_of-change.ensures.ascends c.change_of-change.result c.change_of-change.ensures.change c.in_default.not-Kept c.in_default.not-Raised);
+  own = c.renew.ensures.own;
+}
