@@ -6,7 +6,7 @@ use Rattle.message.specs.Presence.{Entry}
 use Rattle.awareness.specs.declared.change.Change.{Change}
 use Rattle.awareness.specs.declared.change.Change.TheVariants.{Kept, Hidden, Added, Repeated, Changed, Raised, Removed}
 use Rattle.awareness.specs.Record.{Record, client_of, held_of, outranks}
-use Rattle.awareness.specs.Changes.{change_by, comes, comes_by, come_in, taken_over}
+use Rattle.awareness.specs.Changes.{change_by, comes_by, come_in, taken_over}
 use Rattle.awareness.specs.Taking.{defies, lifted, newcomer, plain, received, stored}
 use Rattle.awareness.proofs.Coming.{received_is}
 use mathlib.Core.Bool.{cond}
