@@ -8,9 +8,11 @@ use boards::count_board::CountBoard;
 use boards::slot_board::SlotBoard;
 use calls::answer::{Handled, Refusal};
 use calls::fault::{Fault, PolicyFault};
-use calls::policy::{DefaultPolicy, TagRanges};
+use calls::policy::{DefaultPolicy, Policy, TagRanges};
 use document::fault::DocumentFault;
+use document::host::DocumentHost;
 use encoding::fault::WireFault;
+use std::process::Abort;
 use std::test::Fail;
 
 // The first id that no client can have.
@@ -56,98 +58,123 @@ fn alone(fault: Fault) -> Refusal {
     }
 }
 
-// What is held of a client.
+// What bytes come to in a hub whose clock steps, and what stands in a buffer then.
+fn replied<H: DocumentHost, P: Policy, const N: usize>(
+    hub: &mut Hub<H, StepClock, P>,
+    bytes: &[u8],
+) -> (Result<Handled, Refusal>, [u8; N]) {
+    let mut out = [0xee; N];
+    let answer = hub.handle(bytes, &mut out);
+    (answer, out)
+}
+
+// What is held of a client: at which clock, and since when.
 #[derive(Clone, Copy, Debug, PartialEq, Eq)]
-struct Held {
-    clock: u32,
-    time: u64,
-    live: bool,
+enum Held {
+    Nothing,
+    Live(u32, u64),
+    Null(u32, u64),
 }
 
-fn shown(hub: &Counts, client: u64) -> Result<Option<Held>, Refusal> {
-    let shown = hub.show(client)?.map(|r| Held {
-        clock: r.clock(),
-        time: r.time(),
-        live: r.state().is_some(),
-    });
-    Ok(shown)
+fn shown(hub: &Counts, client: u64) -> Result<Held, Refusal> {
+    let held = match hub.show(client)? {
+        None => Held::Nothing,
+        Some(r) if r.state().is_some() => Held::Live(r.clock(), r.time()),
+        Some(r) => Held::Null(r.clock(), r.time()),
+    };
+    Ok(held)
 }
 
-// What is held at a clock, since a time.
-fn live(clock: u32, time: u64) -> Result<Option<Held>, Refusal> {
-    Ok(Some(Held {
-        clock,
-        time,
-        live: true,
-    }))
+// How many records and how many counts a hub holds, and its clock's next reading.
+fn sizes(hub: &Counts) -> (usize, usize, u64) {
+    (
+        hub.presence.records().len(),
+        hub.host.counts().len(),
+        hub.clock.reading,
+    )
 }
 
-fn null(clock: u32, time: u64) -> Result<Option<Held>, Refusal> {
-    Ok(Some(Held {
-        clock,
-        time,
-        live: false,
-    }))
+// What is asked of a hub.
+#[derive(Clone, Copy)]
+enum Ask<'a> {
+    Handle(&'a [u8]),
+    Set(&'a [u8]),
+    Remove(u64),
+    Clean,
+}
+
+// How many messages are done, with no place for a reply; none where none are asked for.
+fn answer_to(hub: &mut Counts, ask: Ask) -> Result<usize, Refusal> {
+    match ask {
+        Ask::Handle(bytes) => return Ok(hub.handle(bytes, &mut [])?.messages),
+        Ask::Set(text) => hub.set(text)?,
+        Ask::Remove(client) => hub.remove(client)?,
+        Ask::Clean => hub.clean()?,
+    }
+    Ok(0)
+}
+
+// What is asked, how many messages are done or why it is refused at its first byte, then of a client what is held, and the clock's next reading.
+#[derive(Clone, Copy)]
+struct Step<'a>(Ask<'a>, Result<usize, Fault>, (u64, Held), u64);
+
+// Calls come one after another.
+fn check_steps(rt: &impl Abort, hub: &mut Counts, steps: &[Step]) -> Result<(), Fail> {
+    for Step(ask, told, (client, holds), reading) in steps {
+        let came = (answer_to(hub, *ask), shown(hub, *client), hub.clock.reading);
+        assert_eq!(rt; came, ((*told).map_err(alone), Ok(*holds), *reading));
+    }
+    Ok(())
 }
 
 #[test]
 fn a_fresh_hub_holds_nothing(rt: HostRuntime) -> Result<(), Fail> {
     let hub = counts()?;
     assert_eq!(rt; hub.presence.client_id(), 1);
-    assert_eq!(rt; hub.presence.records().len(), 0);
-    assert_eq!(rt; hub.host.counts().len(), 0);
-    assert_eq!(rt; hub.clock.reading, 100);
+    assert_eq!(rt; sizes(&hub), (0, 0, 100));
     Ok(())
 }
 
+// The clock is read once for each update that is taken.
 #[test]
 fn a_client_comes_and_goes(rt: HostRuntime) -> Result<(), Fail> {
+    let steps = [
+        Step(Ask::Handle(&IN), Ok(1), (7, Held::Live(3, 100)), 101),
+        Step(Ask::Handle(&GONE), Ok(1), (7, Held::Null(3, 101)), 102),
+        Step(Ask::Handle(&IN), Ok(1), (7, Held::Null(3, 101)), 103),
+    ];
     let mut hub = counts()?;
-    let mut none = [0; 0];
-    assert_eq!(rt; hub.handle(&IN, &mut none), done(1, 10, 0));
-    assert_eq!(rt; shown(&hub, 7), live(3, 100));
-    assert_eq!(rt; hub.handle(&GONE, &mut none), done(1, 10, 0));
-    assert_eq!(rt; shown(&hub, 7), null(3, 101));
-    assert_eq!(rt; hub.handle(&IN, &mut none), done(1, 10, 0));
-    assert_eq!(rt; shown(&hub, 7), null(3, 101));
-    assert_eq!(rt;
-        hub.clock.reading,
-        103,
-        "read once for each update that is taken"
-    );
-    assert_eq!(rt; hub.host.counts().len(), 0);
+    check_steps(&rt, &mut hub, &steps)?;
+    assert_eq!(rt; sizes(&hub), (1, 0, 103));
     Ok(())
 }
 
 // Missing bytes are a refusal inside of a buffer, and outside the end of reading.
 #[test]
 fn cut_and_refused_differ(rt: HostRuntime) -> Result<(), Fail> {
-    let mut hub = counts()?;
-    let mut out = [0xee; 4];
     let short = Fault::Wire(WireFault::EndOfBuffer);
-    assert_eq!(rt;
-        hub.handle(b"\x01\x01\x01\x03", &mut out),
-        refused(short, 0, 0, 0)
-    );
-    assert_eq!(rt; hub.handle(b"\x01\x02\x01", &mut out), done(0, 0, 0));
-    assert_eq!(rt; hub.handle(b"", &mut out), done(0, 0, 0));
-    assert_eq!(rt; out, [0xee; 4]);
-    assert_eq!(rt; hub.handle(b"\x03\x01\x02\x01", &mut out), done(1, 1, 3));
-    assert_eq!(rt; out, *b"\x01\x01\x00\xee");
-    assert_eq!(rt; hub.clock.reading, 100);
+    let table: [(&[u8], Result<Handled, Refusal>, [u8; 4]); 4] = [
+        (b"\x01\x01\x01\x03", refused(short, 0, 0, 0), [0xee; 4]),
+        (b"\x01\x02\x01", done(0, 0, 0), [0xee; 4]),
+        (b"", done(0, 0, 0), [0xee; 4]),
+        (b"\x03\x01\x02\x01", done(1, 1, 3), *b"\x01\x01\x00\xee"),
+    ];
+    let mut hub = counts()?;
+    for (bytes, answer, out) in table {
+        assert_eq!(rt; replied(&mut hub, bytes), (answer, out));
+    }
+    assert_eq!(rt; sizes(&hub), (0, 0, 100));
     Ok(())
 }
 
 #[test]
 fn step_1_is_replied_to_with_counts(rt: HostRuntime) -> Result<(), Fail> {
     let mut hub = counts()?;
-    let mut out = [0xee; 11];
     let two = b"\x00\x02\x06\x02\x09\x02\x05\xad\x02";
-    assert_eq!(rt; hub.handle(two, &mut out), done(1, 9, 0));
-    assert_eq!(rt; out, [0xee; 11]);
+    assert_eq!(rt; replied(&mut hub, two), (done(1, 9, 0), [0xee; 11]));
     let asked = b"\x00\x00\x04\x01\x05\xac\x02";
-    assert_eq!(rt; hub.handle(asked, &mut out), done(1, 7, 9));
-    assert_eq!(rt; out, *b"\x00\x01\x06\x02\x05\xad\x02\x09\x02\xee\xee");
+    let reply = *b"\x00\x01\x06\x02\x05\xad\x02\x09\x02\xee\xee";
+    assert_eq!(rt; replied(&mut hub, asked), (done(1, 7, 9), reply));
     Ok(())
 }
 
@@ -158,198 +185,180 @@ fn step_1_is_replied_to_with_slots(rt: HostRuntime) -> Result<(), Fail> {
         StepClock { reading: 100 },
         DefaultPolicy,
     )?;
-    let mut out = [0xee; 9];
     let slot = b"\x00\x01\x05\x01\x05\x02\x01a";
-    assert_eq!(rt; hub.handle(slot, &mut out), done(1, 8, 0));
-    assert_eq!(rt;
-        hub.handle(b"\x00\x00\x03\x01\x05\x02", &mut out),
-        done(1, 6, 8)
-    );
-    assert_eq!(rt; out, *b"\x00\x01\x05\x01\x05\x02\x01a\xee");
+    assert_eq!(rt; replied(&mut hub, slot), (done(1, 8, 0), [0xee; 9]));
+    let asked = b"\x00\x00\x03\x01\x05\x02";
+    let reply = *b"\x00\x01\x05\x01\x05\x02\x01a\xee";
+    assert_eq!(rt; replied(&mut hub, asked), (done(1, 6, 8), reply));
     Ok(())
 }
 
 // A query is replied to with those that are live then, whatever comes after it.
 #[test]
 fn queries_are_replied_to_in_turn(rt: HostRuntime) -> Result<(), Fail> {
-    let mut hub = counts()?;
-    let mut out = [0xee; 16];
     let all = b"\x03\x01\x08\x01\x07\x03\x04\"in\"\x03\x01\x08\x01\x07\x03\x04null\x03";
-    assert_eq!(rt; hub.handle(&all[..11], &mut out), done(2, 11, 3));
-    assert_eq!(rt; &out[..4], b"\x01\x01\x00\xee".as_slice());
-    let mut hub = counts()?;
-    assert_eq!(rt; hub.handle(all, &mut out), done(5, 23, 16));
+    let first = *b"\x01\x01\x00\xee";
     assert_eq!(rt;
-        out,
-        *b"\x01\x01\x00\x01\x08\x01\x07\x03\x04\"in\"\x01\x01\x00"
+        replied(&mut counts()?, &all[..11]),
+        (done(2, 11, 3), first)
     );
+    let each = *b"\x01\x01\x00\x01\x08\x01\x07\x03\x04\"in\"\x01\x01\x00";
+    assert_eq!(rt; replied(&mut counts()?, all), (done(5, 23, 16), each));
     Ok(())
 }
 
-// Whatever bytes alone are refused for, after a query that was replied to.
+// Bytes of one message, after a query that was replied to, change nothing.
+fn check_refused(rt: &impl Abort, bytes: &[u8], fault: Fault) -> Result<(), Fail> {
+    let mut hub = counts()?;
+    answer_to(&mut hub, Ask::Handle(&GONE))?;
+    let only_a_reply = (refused(fault, 1, 1, 3), *b"\x01\x01\x00\xee\xee");
+    assert_eq!(rt; replied(&mut hub, bytes), only_a_reply);
+    let as_before = (Ok(Held::Null(3, 100)), (1, 0, 101));
+    assert_eq!(rt; (shown(&hub, 7), sizes(&hub)), as_before);
+    Ok(())
+}
+
+// Whatever bytes alone are refused for on the wire.
 #[test]
-fn a_refused_message_changes_nothing(rt: HostRuntime) -> Result<(), Fail> {
-    let table: [(&[u8], Fault); 15] = [
-        (b"\x03\x80\x02", Fault::Wire(WireFault::InvalidVarInt)),
+fn an_unreadable_message_changes_nothing(rt: HostRuntime) -> Result<(), Fail> {
+    let table: [(&[u8], WireFault); 9] = [
+        (b"\x03\x80\x02", WireFault::InvalidVarInt),
         (
             b"\x03\x01\x09\x01\x07\x80\x80\x80\x80\x10\x01a",
-            Fault::Wire(WireFault::InvalidVarInt),
+            WireFault::InvalidVarInt,
         ),
-        (
-            b"\x03\x00\x00\x02\x01\x05",
-            Fault::Wire(WireFault::EndOfBuffer),
-        ),
-        (b"\x03\x00\x03\x00", Fault::Wire(WireFault::UnexpectedValue)),
-        (
-            b"\x03\x02\x00\x01\xff",
-            Fault::Wire(WireFault::UnexpectedValue),
-        ),
+        (b"\x03\x00\x00\x02\x01\x05", WireFault::EndOfBuffer),
+        (b"\x03\x00\x03\x00", WireFault::UnexpectedValue),
+        (b"\x03\x02\x00\x01\xff", WireFault::UnexpectedValue),
         (
             b"\x03\x01\x05\x01\x07\x03\x01\xff",
-            Fault::Wire(WireFault::UnexpectedValue),
+            WireFault::UnexpectedValue,
         ),
         (
             b"\x03\x00\x00\x0a\x01\x80\x80\x80\x80\x80\x80\x80\x10\x01",
-            Fault::Wire(WireFault::InvalidClientId),
+            WireFault::InvalidClientId,
         ),
-        (
-            b"\x03\x00\x00\x01\x41",
-            Fault::Wire(WireFault::TooManyEntries),
-        ),
-        (b"\x03\x01\x01\x41", Fault::Wire(WireFault::TooManyEntries)),
+        (b"\x03\x00\x00\x01\x41", WireFault::TooManyEntries),
+        (b"\x03\x01\x01\x41", WireFault::TooManyEntries),
+    ];
+    for (bytes, fault) in table {
+        check_refused(&rt, bytes, Fault::Wire(fault))?;
+    }
+    Ok(())
+}
+
+// And for what they say, or for want of room.
+#[test]
+fn a_refused_message_changes_nothing(rt: HostRuntime) -> Result<(), Fail> {
+    let too_many = DocumentFault::Unreadable(WireFault::TooManyEntries);
+    let short = DocumentFault::Unreadable(WireFault::EndOfBuffer);
+    let table: [(&[u8], Fault); 6] = [
         (
             b"\x03\x02\x00\x02no",
             Fault::Policy(PolicyFault::PermissionDenied),
         ),
         (b"\x03\x10\x01a", Fault::Policy(PolicyFault::Unsupported)),
-        (
-            b"\x03\x00\x02\x01\x41",
-            Fault::Document(DocumentFault::Unreadable(WireFault::TooManyEntries)),
-        ),
-        (
-            b"\x03\x00\x01\x02\x01\x07",
-            Fault::Document(DocumentFault::Unreadable(WireFault::EndOfBuffer)),
-        ),
+        (b"\x03\x00\x02\x01\x41", Fault::Document(too_many)),
+        (b"\x03\x00\x01\x02\x01\x07", Fault::Document(short)),
         (b"\x03\x03", Fault::Buffer),
         (b"\x03\x00\x00\x01\x00", Fault::Buffer),
     ];
-    let mut hub = counts()?;
-    let mut none = [0; 0];
-    assert_eq!(rt; hub.handle(&GONE, &mut none), done(1, 10, 0));
     for (bytes, fault) in table {
-        let mut out = [0xee; 5];
-        assert_eq!(rt; hub.handle(bytes, &mut out), refused(fault, 1, 1, 3));
-        assert_eq!(rt; out, *b"\x01\x01\x00\xee\xee");
-        assert_eq!(rt; shown(&hub, 7), null(3, 100));
-        assert_eq!(rt; hub.presence.records().len(), 1);
-        assert_eq!(rt; hub.host.counts().len(), 0);
-        assert_eq!(rt; hub.clock.reading, 101);
+        check_refused(&rt, bytes, fault)?;
     }
     Ok(())
 }
 
-// A presence text of 257 bytes.
+// A presence text of 257 bytes, and one of 256 that is set.
 #[test]
 fn too_long_a_text_is_refused(rt: HostRuntime) -> Result<(), Fail> {
     let mut long = [b'a'; 265];
     long[0..8].copy_from_slice(b"\x01\x86\x02\x01\x07\x03\x81\x02");
-    let too_long = Fault::Wire(WireFault::TextTooLong);
-    let mut hub = counts()?;
-    let mut none = [0; 0];
-    assert_eq!(rt; hub.handle(&long, &mut none), refused(too_long, 0, 0, 0));
-    assert_eq!(rt; hub.set(&long[8..]), Err(alone(too_long)));
-    assert_eq!(rt; hub.presence.records().len(), 0);
-    assert_eq!(rt; hub.clock.reading, 100);
-    assert_eq!(rt; hub.set(&long[9..]), Ok(()));
-    assert_eq!(rt; shown(&hub, 1), live(1, 100));
-    Ok(())
+    let too_long = Err(Fault::Wire(WireFault::TextTooLong));
+    let steps = [
+        Step(Ask::Handle(&long), too_long, (7, Held::Nothing), 100),
+        Step(Ask::Set(&long[8..]), too_long, (1, Held::Nothing), 100),
+        Step(Ask::Set(&long[9..]), Ok(0), (1, Held::Live(1, 100)), 101),
+    ];
+    check_steps(&rt, &mut counts()?, &steps)
 }
 
 // The messages before a refused one keep their effects and replies.
 #[test]
 fn what_is_done_before_a_refusal_stays(rt: HostRuntime) -> Result<(), Fail> {
     let mut hub = counts()?;
-    let mut out = [0xee; 16];
     let bytes = b"\x00\x02\x03\x01\x05\x02\x01\x05\x01\x07\x03\x01a\x00\x00\x01\x00\x05\x00\x03";
     let unsupported = Fault::Policy(PolicyFault::Unsupported);
-    assert_eq!(rt; hub.handle(bytes, &mut out), refused(unsupported, 3, 17, 6));
-    assert_eq!(rt; &out[..7], b"\x00\x01\x03\x01\x05\x02\xee".as_slice());
-    assert_eq!(rt; shown(&hub, 7), live(3, 100));
-    assert_eq!(rt;
-        hub.host.counts(),
-        [Count {
-            client: 5,
-            count: 2
-        }]
-        .as_slice()
+    let came = (
+        refused(unsupported, 3, 17, 6),
+        *b"\x00\x01\x03\x01\x05\x02\xee\xee\xee",
     );
-    assert_eq!(rt; hub.clock.reading, 101);
+    assert_eq!(rt; replied(&mut hub, bytes), came);
+    assert_eq!(rt;
+        (shown(&hub, 7), sizes(&hub)),
+        (Ok(Held::Live(3, 100)), (1, 1, 101))
+    );
+    let five = Count {
+        client: 5,
+        count: 2,
+    };
+    assert_eq!(rt; hub.host.counts(), [five].as_slice());
     Ok(())
 }
 
 // A hub of 64 clients, each with a text of one letter: its own at the last clock, the others at clock 1.
 fn full() -> Result<Counts, Fail> {
     let mut hub = counts()?;
-    let mut none = [0; 0];
-    let own = hub.handle(b"\x01\x09\x01\x01\xff\xff\xff\xff\x0f\x01a", &mut none);
-    let mut taken = own.is_ok();
+    answer_to(
+        &mut hub,
+        Ask::Handle(b"\x01\x09\x01\x01\xff\xff\xff\xff\x0f\x01a"),
+    )?;
     for client in 2u8..65 {
-        let came = hub.handle(&[1, 5, 1, client, 1, 1, b'a'], &mut none);
-        taken = taken && came.is_ok();
+        answer_to(&mut hub, Ask::Handle(&[1, 5, 1, client, 1, 1, b'a']))?;
     }
-    if taken {
-        Ok(hub)
-    } else {
-        Err(Fail::new("64 clients"))
-    }
+    Ok(hub)
 }
 
+// No refusal reads the clock.
 #[test]
 fn a_full_table_refuses(rt: HostRuntime) -> Result<(), Fail> {
+    let too_many = Err(Fault::Presence(PresenceFault::TooManyClients));
+    let at_end = Err(Fault::Presence(PresenceFault::ClockAtEnd));
+    let a_65th = Ask::Handle(b"\x01\x05\x01\x41\x01\x01a");
+    let own_null = Ask::Handle(b"\x01\x0c\x01\x01\xff\xff\xff\xff\x0f\x04null");
+    let known = Ask::Handle(b"\x01\x05\x01\x40\x02\x01b");
+    let own = (1, Held::Live(u32::MAX, 100));
+    let steps = [
+        Step(a_65th, too_many, (65, Held::Nothing), 164),
+        Step(own_null, at_end, own, 164),
+        Step(Ask::Remove(65), too_many, (65, Held::Nothing), 164),
+        Step(Ask::Remove(1), at_end, own, 164),
+        Step(Ask::Clean, at_end, own, 164),
+        Step(Ask::Set(b"b"), at_end, (64, Held::Live(1, 163)), 164),
+        Step(known, Ok(1), (64, Held::Live(2, 164)), 165),
+    ];
     let mut hub = full()?;
-    let mut none = [0; 0];
-    let too_many = Fault::Presence(PresenceFault::TooManyClients);
-    let at_end = Fault::Presence(PresenceFault::ClockAtEnd);
-    let a_65th = b"\x01\x05\x01\x41\x01\x01a";
-    let own_null = b"\x01\x0c\x01\x01\xff\xff\xff\xff\x0f\x04null";
-    assert_eq!(rt; hub.handle(a_65th, &mut none), refused(too_many, 0, 0, 0));
-    assert_eq!(rt; hub.handle(own_null, &mut none), refused(at_end, 0, 0, 0));
-    assert_eq!(rt; hub.remove(65), Err(alone(too_many)));
-    assert_eq!(rt; hub.remove(1), Err(alone(at_end)));
-    assert_eq!(rt; hub.clean(), Err(alone(at_end)));
-    assert_eq!(rt; hub.set(b"b"), Err(alone(at_end)));
-    assert_eq!(rt; hub.presence.records().len(), 64);
-    assert_eq!(rt; shown(&hub, 1), live(u32::MAX, 100));
-    assert_eq!(rt; shown(&hub, 64), live(1, 163));
-    assert_eq!(rt; shown(&hub, 65), Ok(None));
-    assert_eq!(rt; hub.clock.reading, 164, "no refusal reads it");
-    assert_eq!(rt;
-        hub.handle(b"\x01\x05\x01\x40\x02\x01b", &mut none),
-        done(1, 7, 0)
-    );
-    assert_eq!(rt; shown(&hub, 64), live(2, 164));
+    check_steps(&rt, &mut hub, &steps)?;
+    assert_eq!(rt; (shown(&hub, 1), sizes(&hub)), (Ok(own.1), (64, 0, 165)));
     Ok(())
 }
 
 #[test]
 fn a_document_past_its_limit_is_refused(rt: HostRuntime) -> Result<(), Fail> {
     let mut hub = counts()?;
-    let mut out = [0xee; 4];
     for client in 0u8..64 {
-        let bytes = [0, 2, 3, 1, client, 1];
-        assert_eq!(rt; hub.handle(&bytes, &mut out), done(1, 6, 0));
+        answer_to(&mut hub, Ask::Handle(&[0, 2, 3, 1, client, 1]))?;
     }
     let too_large = Fault::Document(DocumentFault::TooLarge);
     let a_65th = b"\x03\x00\x02\x05\x02\x05\x09\x40\x01";
-    assert_eq!(rt; hub.handle(a_65th, &mut out), refused(too_large, 1, 1, 3));
-    assert_eq!(rt; out, *b"\x01\x01\x00\xee");
-    assert_eq!(rt; hub.host.counts().len(), 64);
+    let only_a_reply = (refused(too_large, 1, 1, 3), *b"\x01\x01\x00\xee");
+    assert_eq!(rt; replied(&mut hub, a_65th), only_a_reply);
+    assert_eq!(rt; sizes(&hub), (0, 64, 100));
     let five = Count {
         client: 5,
         count: 1,
     };
-    assert_eq!(rt; hub.host.counts()[5], five);
-    assert_eq!(rt; hub.clock.reading, 100);
+    assert_eq!(rt; hub.host.counts().get(5), Some(&five));
     Ok(())
 }
 
@@ -361,11 +370,10 @@ fn a_policy_decides(rt: HostRuntime) -> Result<(), Fail> {
         StepClock { reading: 100 },
         TagRanges::new(),
     )?;
-    let mut none = [0; 0];
     let unsupported = Fault::Policy(PolicyFault::Unsupported);
     assert_eq!(rt;
-        hub.handle(b"\x02\x01\x10\x01a\x1f\x00\x20\x00", &mut none),
-        refused(unsupported, 3, 7, 0)
+        replied(&mut hub, b"\x02\x01\x10\x01a\x1f\x00\x20\x00"),
+        (refused(unsupported, 3, 7, 0), [])
     );
     assert_eq!(rt; hub.policy.latest(), Some(31));
     Ok(())
@@ -380,117 +388,156 @@ fn an_own_id_is_judged(rt: HostRuntime) {
 
 #[test]
 fn the_own_state_is_set(rt: HostRuntime) -> Result<(), Fail> {
-    let mut hub = counts()?;
-    assert_eq!(rt; hub.set(b"a"), Ok(()));
-    assert_eq!(rt; shown(&hub, 1), live(1, 100));
-    let no_text = Fault::Wire(WireFault::UnexpectedValue);
-    assert_eq!(rt; hub.set(b"\xff"), Err(alone(no_text)));
-    assert_eq!(rt; hub.clean(), Ok(()));
-    assert_eq!(rt; shown(&hub, 1), null(2, 100));
-    assert_eq!(rt; hub.clock.reading, 101);
-    Ok(())
+    let no_text = Err(Fault::Wire(WireFault::UnexpectedValue));
+    let steps = [
+        Step(Ask::Set(b"a"), Ok(0), (1, Held::Live(1, 100)), 101),
+        Step(Ask::Set(b"\xff"), no_text, (1, Held::Live(1, 100)), 101),
+        Step(Ask::Clean, Ok(0), (1, Held::Null(2, 100)), 101),
+    ];
+    check_steps(&rt, &mut counts()?, &steps)
 }
 
 #[test]
 fn clients_are_removed(rt: HostRuntime) -> Result<(), Fail> {
-    let mut hub = counts()?;
-    assert_eq!(rt; hub.remove(7), Ok(()));
-    assert_eq!(rt; shown(&hub, 7), null(1, 100));
     let no_id = Fault::Wire(WireFault::InvalidClientId);
-    assert_eq!(rt; hub.remove(NO_CLIENT), Err(alone(no_id)));
+    let steps = [
+        Step(Ask::Remove(7), Ok(0), (7, Held::Null(1, 100)), 101),
+        Step(
+            Ask::Remove(NO_CLIENT),
+            Err(no_id),
+            (7, Held::Null(1, 100)),
+            101,
+        ),
+    ];
+    let mut hub = counts()?;
+    check_steps(&rt, &mut hub, &steps)?;
     assert_eq!(rt; shown(&hub, NO_CLIENT), Err(alone(no_id)));
-    assert_eq!(rt; hub.presence.records().len(), 1);
-    assert_eq!(rt; hub.clock.reading, 101);
+    assert_eq!(rt; sizes(&hub), (1, 0, 101));
     Ok(())
 }
 
-// The update of three clients is listed, of one it is not; each fault in its order.
+// What is answered for a list of clients, and what stands in a buffer then.
+fn listed<const N: usize>(hub: &Counts, clients: &[u64]) -> (Result<usize, Refusal>, [u8; N]) {
+    let mut out = [0xee; N];
+    let answer = hub.list(clients, &mut out);
+    (answer, out)
+}
+
+// The update of two clients is listed, of the third it is not; each fault in its order.
 #[test]
 fn records_are_listed(rt: HostRuntime) -> Result<(), Fail> {
     let mut hub = counts()?;
-    let mut none = [0; 0];
-    let three = b"\x01\x0d\x03\x09\x01\x01c\x05\x02\x01a\x07\x03\x01b";
-    assert_eq!(rt; hub.handle(three, &mut none), done(1, 15, 0));
-    let mut out = [0xee; 10];
-    assert_eq!(rt; hub.list(&[9, 5, 9], &mut out), Ok(9));
-    assert_eq!(rt; out, *b"\x02\x05\x02\x01a\x09\x01\x01c\xee");
-    let mut short = [0xee; 8];
-    let ids = [8; 65];
+    answer_to(
+        &mut hub,
+        Ask::Handle(b"\x01\x0d\x03\x09\x01\x01c\x05\x02\x01a\x07\x03\x01b"),
+    )?;
+    let two = *b"\x02\x05\x02\x01a\x09\x01\x01c\xee";
+    assert_eq!(rt; listed(&hub, &[9, 5, 9]), (Ok(9), two));
     let table: [(&[u64], Fault); 4] = [
-        (&ids, Fault::Wire(WireFault::TooManyEntries)),
+        (&[8; 65], Fault::Wire(WireFault::TooManyEntries)),
         (&[8, NO_CLIENT], Fault::Wire(WireFault::InvalidClientId)),
         (&[5, 8], Fault::Presence(PresenceFault::ClientNotFound)),
         (&[5, 9], Fault::Buffer),
     ];
     for (clients, fault) in table {
-        assert_eq!(rt; hub.list(clients, &mut short), Err(alone(fault)));
-        assert_eq!(rt; short, [0xee; 8]);
+        assert_eq!(rt; listed(&hub, clients), (Err(alone(fault)), [0xee; 8]));
     }
     Ok(())
+}
+
+// Places for the four lists of an apply.
+#[derive(Drop)]
+struct Places {
+    added: [u64; 64],
+    updated: [u64; 64],
+    changed: [u64; 64],
+    removed: [u64; 64],
+}
+
+impl Places {
+    fn new() -> Places {
+        Places {
+            added: [NO_CLIENT; 64],
+            updated: [NO_CLIENT; 64],
+            changed: [NO_CLIENT; 64],
+            removed: [NO_CLIENT; 64],
+        }
+    }
+
+    // What is answered to an update, with the lists filled here.
+    fn apply(
+        &mut self,
+        hub: &mut Counts,
+        update: &[u8],
+    ) -> Result<AwarenessUpdateSummary, Refusal> {
+        let mut lists = ChangeLists {
+            added: &mut self.added,
+            updated: &mut self.updated,
+            changed: &mut self.changed,
+            removed: &mut self.removed,
+        };
+        hub.apply(update, &mut lists)
+    }
+
+    fn lists(&self) -> [[u64; 64]; 4] {
+        [self.added, self.updated, self.changed, self.removed]
+    }
+}
+
+// A list of one client, with the other places as they were.
+fn list_of(client: u64) -> [u64; 64] {
+    let mut list = [NO_CLIENT; 64];
+    list[0] = client;
+    list
 }
 
 // Four lists: who came, whose text was taken or raised, whose changed, and who went.
 #[test]
 fn changes_are_listed(rt: HostRuntime) -> Result<(), Fail> {
     let mut hub = counts()?;
-    let mut none = [0; 0];
-    assert_eq!(rt; hub.handle(&IN, &mut none), done(1, 10, 0));
-    let mut added = [0; 64];
-    let mut updated = [0; 64];
-    let mut changed = [0; 64];
-    let mut removed = [0; 64];
-    let mut lists = ChangeLists {
-        added: &mut added,
-        updated: &mut updated,
-        changed: &mut changed,
-        removed: &mut removed,
-    };
-    let told = AwarenessUpdateSummary {
+    answer_to(&mut hub, Ask::Handle(&IN))?;
+    let mut places = Places::new();
+    let one_each = AwarenessUpdateSummary {
         added: 1,
         updated: 1,
         changed: 1,
         removed: 1,
     };
     let update = b"\x03\x07\x04\x01a\x09\x01\x01b\x07\x05\x04null";
-    assert_eq!(rt; hub.apply(update, &mut lists), Ok(told));
+    assert_eq!(rt; places.apply(&mut hub, update), Ok(one_each));
+    let seven = list_of(7);
+    assert_eq!(rt; places.lists(), [list_of(9), seven, seven, seven]);
     assert_eq!(rt;
-        [added[0], updated[0], changed[0], removed[0]],
-        [9, 7, 7, 7]
+        (shown(&hub, 7), sizes(&hub)),
+        (Ok(Held::Null(5, 101)), (2, 0, 102))
     );
-    assert_eq!(rt; [added[1], updated[1], changed[1], removed[1]], [0; 4]);
-    assert_eq!(rt; shown(&hub, 7), null(5, 101));
-    assert_eq!(rt; hub.clock.reading, 102);
     Ok(())
 }
 
-// Too few places come before all else, and a refused update leaves the lists as they were.
+// Too few places come before all else.
 #[test]
-fn refused_updates_leave_the_lists(rt: HostRuntime) -> Result<(), Fail> {
+fn each_list_needs_64_places(rt: HostRuntime) -> Result<(), Fail> {
     let mut hub = counts()?;
-    let mut added = [8; 64];
-    let mut updated = [8; 64];
-    let mut changed = [8; 64];
-    let mut removed = [8; 64];
+    let [mut added, mut updated, mut changed] = [[NO_CLIENT; 64]; 3];
     let mut few = ChangeLists {
         added: &mut added,
         updated: &mut updated,
         changed: &mut changed,
-        removed: &mut removed[..63],
+        removed: &mut [NO_CLIENT; 63],
     };
     assert_eq!(rt; hub.apply(b"\x41", &mut few), Err(alone(Fault::Buffer)));
-    let mut lists = ChangeLists {
-        added: &mut added,
-        updated: &mut updated,
-        changed: &mut changed,
-        removed: &mut removed,
-    };
-    let cut = Fault::Wire(WireFault::EndOfBuffer);
-    assert_eq!(rt;
-        hub.apply(b"\x02\x07\x03\x01a", &mut lists),
-        Err(alone(cut))
-    );
-    assert_eq!(rt; [added, updated, changed, removed], [[8; 64]; 4]);
-    assert_eq!(rt; hub.presence.records().len(), 0);
-    assert_eq!(rt; hub.clock.reading, 100);
+    assert_eq!(rt; [added, updated, changed], [[NO_CLIENT; 64]; 3]);
+    assert_eq!(rt; sizes(&hub), (0, 0, 100));
+    Ok(())
+}
+
+#[test]
+fn refused_updates_leave_the_lists(rt: HostRuntime) -> Result<(), Fail> {
+    let mut hub = counts()?;
+    let mut places = Places::new();
+    let cut = alone(Fault::Wire(WireFault::EndOfBuffer));
+    assert_eq!(rt; places.apply(&mut hub, b"\x02\x07\x03\x01a"), Err(cut));
+    assert_eq!(rt; places.lists(), [[NO_CLIENT; 64]; 4]);
+    assert_eq!(rt; sizes(&hub), (0, 0, 100));
     Ok(())
 }
