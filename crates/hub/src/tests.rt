@@ -1,7 +1,9 @@
-// Examples of a hub: what messages do and what is replied to them, each refusal with what it left, and the calls that come to the records.
+// Examples of a hub: what messages do and what is replied to them, each refusal with what it left, the calls that come to the records, and runs of calls.
 use crate::hub::Hub;
+use crate::run::{Answer, Call, Lent, run};
 use awareness::clock::StepClock;
 use awareness::fault::PresenceFault;
+use awareness::record::Record;
 use awareness::summary::{AwarenessUpdateSummary, ChangeLists};
 use boards::count::Count;
 use boards::count_board::CountBoard;
@@ -12,6 +14,7 @@ use calls::policy::{DefaultPolicy, Policy, TagRanges};
 use document::fault::DocumentFault;
 use document::host::DocumentHost;
 use encoding::fault::WireFault;
+use std::array;
 use std::process::Abort;
 use std::test::Fail;
 
@@ -76,13 +79,16 @@ enum Held {
     Null(u32, u64),
 }
 
-fn shown(hub: &Counts, client: u64) -> Result<Held, Refusal> {
-    let held = match hub.show(client)? {
+fn held_of(record: Option<&Record>) -> Held {
+    match record {
         None => Held::Nothing,
         Some(r) if r.state().is_some() => Held::Live(r.clock(), r.time()),
         Some(r) => Held::Null(r.clock(), r.time()),
-    };
-    Ok(held)
+    }
+}
+
+fn shown(hub: &Counts, client: u64) -> Result<Held, Refusal> {
+    Ok(held_of(hub.show(client)?))
 }
 
 // How many records and how many counts a hub holds, and its clock's next reading.
@@ -540,4 +546,185 @@ fn refused_updates_leave_the_lists(rt: HostRuntime) -> Result<(), Fail> {
     assert_eq!(rt; places.lists(), [[NO_CLIENT; 64]; 4]);
     assert_eq!(rt; sizes(&hub), (0, 0, 100));
     Ok(())
+}
+
+// The document's vector, and the live records after it; nothing where they don't fit.
+#[test]
+fn what_a_hub_sends_by_itself(rt: HostRuntime) -> Result<(), Fail> {
+    let mut hub = counts()?;
+    let mut none = [0; 0];
+    let both = b"\x00\x02\x03\x01\x05\x02\x01\x08\x01\x07\x03\x04\"in\"";
+    assert_eq!(rt; hub.handle(both, &mut none), done(2, 16, 0));
+    let mut short = [0xee; 5];
+    assert_eq!(rt; hub.step1(&mut short), Err(alone(Fault::Buffer)));
+    assert_eq!(rt; short, [0xee; 5]);
+    let mut short = [0xee; 15];
+    assert_eq!(rt; hub.start(&mut short), Err(alone(Fault::Buffer)));
+    assert_eq!(rt; short, [0xee; 15]);
+    let mut out = [0xee; 7];
+    assert_eq!(rt; hub.step1(&mut out), Ok(6));
+    assert_eq!(rt; out, *b"\x00\x00\x03\x01\x05\x02\xee");
+    let mut out = [0xee; 17];
+    assert_eq!(rt; hub.start(&mut out), Ok(16));
+    assert_eq!(rt;
+        out,
+        *b"\x00\x00\x03\x01\x05\x02\x01\x08\x01\x07\x03\x04\"in\"\xee"
+    );
+    Ok(())
+}
+
+// What is noted of a call.
+#[derive(Clone, Copy, Debug, PartialEq, Eq)]
+enum Noted {
+    Handled(Result<Handled, Refusal>),
+    Applied(AwarenessUpdateSummary),
+    Done,
+    Written(usize),
+    Shown(Held),
+    Refused(Fault),
+}
+
+fn note_of(answer: &Answer) -> Noted {
+    match answer {
+        Answer::Handled(told) => Noted::Handled(*told),
+        Answer::Applied(lengths) => Noted::Applied(*lengths),
+        Answer::Done => Noted::Done,
+        Answer::Written(len) => Noted::Written(*len),
+        Answer::Shown(record) => Noted::Shown(held_of(record.as_ref())),
+        Answer::Refused(fault) => Noted::Refused(*fault),
+    }
+}
+
+// How many clients each list has.
+fn listed(added: usize, updated: usize, changed: usize, removed: usize) -> AwarenessUpdateSummary {
+    AwarenessUpdateSummary {
+        added,
+        updated,
+        changed,
+        removed,
+    }
+}
+
+#[test]
+fn bytes_and_clients_of_an_answer(rt: HostRuntime) {
+    let none = listed(0, 0, 0, 0);
+    let three = listed(2, 0, 0, 1);
+    let table = [
+        (Answer::Handled(done(1, 9, 5)), 5, none),
+        (Answer::Handled(refused(Fault::Buffer, 1, 1, 3)), 3, none),
+        (Answer::Applied(three), 0, three),
+        (Answer::Done, 0, none),
+        (Answer::Written(7), 7, none),
+        (Answer::Shown(None), 0, none),
+        (Answer::Refused(Fault::Buffer), 0, none),
+    ];
+    for (answer, bytes, clients) in table {
+        assert_eq!(rt; answer.bytes(), bytes);
+        assert_eq!(rt; answer.clients(), clients);
+    }
+}
+
+// Places to be lent to a run, and nothing in them.
+#[derive(Drop)]
+struct RunPlaces {
+    out: [u8; 25],
+    added: [u64; 66],
+    updated: [u64; 66],
+    changed: [u64; 66],
+    removed: [u64; 66],
+}
+
+fn all_places() -> RunPlaces {
+    RunPlaces {
+        out: [0xee; 25],
+        added: [0; 66],
+        updated: [0; 66],
+        changed: [0; 66],
+        removed: [0; 66],
+    }
+}
+
+// Calls of every kind, each with what is noted of it.
+fn calls_with_notes() -> [(Call<'static>, Noted); 11] {
+    let two = b"\x02\x09\x01\x01b\x07\x03\x01a";
+    let three = b"\x03\x08\x01\x01c\x07\x04\x01b\x09\x01\x04null";
+    let gone = Held::Null(5, 102);
+    let no_id = Fault::Wire(WireFault::InvalidClientId);
+    [
+        (Call::Handle(b"\x03"), Noted::Handled(done(1, 1, 3))),
+        (Call::Apply(two), Noted::Applied(listed(2, 0, 0, 0))),
+        (Call::Set(b"a"), Noted::Done),
+        (Call::Apply(three), Noted::Applied(listed(1, 1, 1, 1))),
+        (Call::Step1, Noted::Written(4)),
+        (Call::Remove(7), Noted::Done),
+        (Call::Show(7), Noted::Shown(gone)),
+        (Call::List(&[8]), Noted::Written(5)),
+        (Call::Remove(NO_CLIENT), Noted::Refused(no_id)),
+        (Call::Clean, Noted::Done),
+        (Call::Start, Noted::Written(11)),
+    ]
+}
+
+// Bytes stand one after another, and so do the clients of each list; what is past them stays.
+#[test]
+fn a_run_notes_each_answer(rt: HostRuntime) -> Result<(), Fail> {
+    let told = calls_with_notes();
+    let calls = told.map(|(call, _)| call);
+    let mut answers: [Answer; 12] = array::from_fn(|_| Answer::Written(9));
+    let mut places = all_places();
+    let clock = StepClock { reading: 100 };
+    let lent = Lent {
+        out: &mut places.out,
+        added: &mut places.added,
+        updated: &mut places.updated,
+        changed: &mut places.changed,
+        removed: &mut places.removed,
+    };
+    let hub: Counts = run(1, &calls, clock, DefaultPolicy, &mut answers, lent)?;
+    for (answer, (_, noted)) in answers.iter().zip(told) {
+        assert_eq!(rt; note_of(answer), noted);
+    }
+    assert_eq!(rt; note_of(&answers[11]), Noted::Written(9));
+    assert_eq!(rt;
+        places.out,
+        *b"\x01\x01\x00\x00\x00\x01\x00\x01\x08\x01\x01c\x00\x00\x01\x00\x01\x05\x01\x08\x01\x01c\xee\xee"
+    );
+    assert_eq!(rt; &places.added[..4], [7, 9, 8, 0].as_slice());
+    for list in [&places.updated, &places.changed] {
+        assert_eq!(rt; &list[..2], [7, 0].as_slice());
+    }
+    assert_eq!(rt; &places.removed[..2], [9, 0].as_slice());
+    assert_eq!(rt; shown(&hub, 1), Ok(Held::Null(2, 101)));
+    assert_eq!(rt; hub.clock.reading, 103);
+    Ok(())
+}
+
+// An id that no client can have (4) comes before too few places for answers (14); nothing is noted or written.
+#[test]
+fn a_run_is_refused_whole(rt: HostRuntime) {
+    let calls = [Call::Start, Call::Apply(b"\x01\x07\x03\x01a")];
+    for (own, room, number) in [(NO_CLIENT, 2, 4), (NO_CLIENT, 1, 4), (1, 1, 14)] {
+        let mut answers = [Answer::Written(9), Answer::Written(8)];
+        let mut places = all_places();
+        let clock = StepClock { reading: 100 };
+        let few = &mut answers[..room];
+        let lent = Lent {
+            out: &mut places.out,
+            added: &mut places.added,
+            updated: &mut places.updated,
+            changed: &mut places.changed,
+            removed: &mut places.removed,
+        };
+        let hub: Result<Counts, Fault> = run(own, &calls, clock, DefaultPolicy, few, lent);
+        assert_eq!(rt;
+            hub.map(|_| ()).map_err(|fault| fault.number()),
+            Err(number)
+        );
+        assert_eq!(rt; note_of(&answers[0]), Noted::Written(9));
+        assert_eq!(rt; note_of(&answers[1]), Noted::Written(8));
+        assert_eq!(rt; places.out, [0xee; 25]);
+        for list in [places.added, places.updated, places.changed, places.removed] {
+            assert_eq!(rt; list, [0; 66]);
+        }
+    }
 }
