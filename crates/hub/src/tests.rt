@@ -596,7 +596,7 @@ fn note_of(answer: &Answer) -> Noted {
 }
 
 // How many clients each list has.
-fn listed(added: usize, updated: usize, changed: usize, removed: usize) -> AwarenessUpdateSummary {
+fn lengths(added: usize, updated: usize, changed: usize, removed: usize) -> AwarenessUpdateSummary {
     AwarenessUpdateSummary {
         added,
         updated,
@@ -607,8 +607,8 @@ fn listed(added: usize, updated: usize, changed: usize, removed: usize) -> Aware
 
 #[test]
 fn bytes_and_clients_of_an_answer(rt: HostRuntime) {
-    let none = listed(0, 0, 0, 0);
-    let three = listed(2, 0, 0, 1);
+    let none = lengths(0, 0, 0, 0);
+    let three = lengths(2, 0, 0, 1);
     let table = [
         (Answer::Handled(done(1, 9, 5)), 5, none),
         (Answer::Handled(refused(Fault::Buffer, 1, 1, 3)), 3, none),
@@ -652,9 +652,9 @@ fn calls_with_notes() -> [(Call<'static>, Noted); 11] {
     let no_id = Fault::Wire(WireFault::InvalidClientId);
     [
         (Call::Handle(b"\x03"), Noted::Handled(done(1, 1, 3))),
-        (Call::Apply(two), Noted::Applied(listed(2, 0, 0, 0))),
+        (Call::Apply(two), Noted::Applied(lengths(2, 0, 0, 0))),
         (Call::Set(b"a"), Noted::Done),
-        (Call::Apply(three), Noted::Applied(listed(1, 1, 1, 1))),
+        (Call::Apply(three), Noted::Applied(lengths(1, 1, 1, 1))),
         (Call::Step1, Noted::Written(4)),
         (Call::Remove(7), Noted::Done),
         (Call::Show(7), Noted::Shown(gone)),
