@@ -1,10 +1,10 @@
 // The table of presence records: what entries, sets and removals do to it.
-ghost use Rattle.std.specs.Prelude.{◌≡◌, ℕ, ◌^◌, ◌<◌, ◌≤◌, true, [], length, Ok, Err, Result};
+ghost use Rattle.std.specs.Prelude.{◌≡◌, ℕ, ◌^◌, ◌<◌, ◌≤◌, true, [], length, Ok, Err, Result, MatchResult};
 ghost use Rattle.std.specs.List.{All};
 ghost use Rattle.std.specs.Option.{option_copied};
 ghost use Rattle.std.specs.Result.{result_and, result_map_both};
 ghost use Rattle.encoding.specs.Fields.{client_id};
-ghost use Rattle.state_vector.specs.Tables.{ascends};
+ghost use Rattle.state_vector.specs.Tables.{ascends, Found, Missing};
 ghost use Rattle.awareness.specs.Calls.{judged, rise_for, room_for};
 ghost use Rattle.awareness.specs.Record.{Record, Clients, client_of, held_of, Writable};
 ghost use Rattle.awareness.specs.Changes.{change_by, changes, comes, noted, same};
@@ -148,23 +148,29 @@ impl Awareness {
         self.table.put(come).unwrap();
     }
 
-    // What an entry does.
-    fn change_of(&self, e: &ArrivedEntry<'_>) -> Change
+    // What an entry does whose client was searched for.
+    fn change_at(&self, place: Result<usize, usize>, e: &ArrivedEntry<'_>) -> Change
+        requires { MatchResult place (Found client_of e.now.client self.now.rows) (Missing client_of e.now.client self.now.rows) }
         ensures change { result ≡ change_by self.now.own (held_of e.now.client self.now.rows) e.now }
         ensures ascends { ascends client_of self.now.rows ≡ true }
     {
-        change_by(self.own, self.table.get(e.client()), e)
+        let held = match place {
+            Ok(at) => Some(&self.records()[at]),
+            Err(_) => None,
+        };
+        change_by(self.own, held, e)
     }
 
-    // Makes the record of an entry's client anew of it, where there is a place.
-    fn renew(&mut self, e: &Arrival<'_>)
-        requires { length (stored self.old.rows (plain e.now.time e.now.entry)) ≤ 64 }
+    // Makes the record of an entry's client anew of it, at the place that a search found.
+    fn renew(&mut self, place: Result<usize, usize>, e: &Arrival<'_>)
+        requires place { MatchResult place (Found client_of e.now.entry.client self.old.rows) (Missing client_of e.now.entry.client self.old.rows) }
+        requires room { length (stored self.old.rows (plain e.now.time e.now.entry)) ≤ 64 }
         ensures rows { self.new.rows ≡ stored self.old.rows (plain e.now.time e.now.entry) }
         ensures own { self.new.own ≡ self.old.own }
     {
         // a look at its state brings in that the entry can be written
         let _state = e.entry.state();
-        self.table.put_made(e.entry.client(), e).unwrap();
+        self.table.put_made(place, e).unwrap();
     }
 
     // Takes an entry that finds a place, and whose clock can rise where it has to: what `receive_anew` does, with the record made where it lies unless the one held is raised.
@@ -175,12 +181,13 @@ impl Awareness {
         ensures rows { self.new.rows ≡ received self.old.own e.now.time self.old.rows e.now.entry }
         ensures own { self.new.own ≡ self.old.own }
     {
-        let change = self.change_of(&e.entry);
+        let place = self.table.find(e.entry.client());
+        let change = self.change_at(place, &e.entry);
         match change {
             Change::Kept => change,
             Change::Raised => self.receive_anew(&e.entry, e.time),
             _ => {
-                self.renew(e);
+                self.renew(place, e);
                 change
             }
         }
