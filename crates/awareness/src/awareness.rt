@@ -8,6 +8,7 @@ ghost use Rattle.state_vector.specs.Tables.{ascends, Found, Missing};
 ghost use Rattle.awareness.specs.Calls.{judged, rise_for, room_for};
 ghost use Rattle.awareness.specs.Record.{Record, Clients, client_of, held_of, Writable};
 ghost use Rattle.awareness.specs.Changes.{change_by, changes, comes, noted, same};
+ghost use Rattle.awareness.specs.Following.{so_far, stands};
 ghost use Rattle.awareness.specs.Taking.{defies, plain, rises, received, stored, taken};
 
 use crate::change::Change;
@@ -228,14 +229,24 @@ impl Awareness {
         }
     }
 
-    // Whether the own clock could rise where it would have to.
+    // The standing of the own record that was followed so far, or else of the one that is held.
+    fn standing(&self, followed: Option<Standing>) -> Option<Standing>
+        ensures { result ≡ so_far followed (stands (held_of self.now.own self.now.rows)) }
+    {
+        match followed {
+            Some(_) => followed,
+            None => self.table.get(self.own).map(Standing::of),
+        }
+    }
+
+    // Whether the own clock could rise where it would have to; most updates do not name the own client, and then it is not looked up.
     pub(crate) fn judge_own(&self, update: &ArrivedUpdate<'_>) -> Result<(), PresenceFault>
         ensures { (now : ℕ) → result ≡ rise_for (held_of self.now.own (taken self.now.own now self.now.rows update.now)) }
     {
-        let mut own = self.table.get(self.own).map(Standing::of);
+        let mut followed: Option<Standing> = None;
         for e in update.iter() {
             if e.client() == self.own {
-                own = Some(Standing::after(own, &e)?);
+                followed = Some(Standing::after(self.standing(followed), &e)?);
             }
         }
         Ok(())
