@@ -16,7 +16,7 @@ use std::time::Instant;
 static ALLOCATOR: Counting = Counting;
 
 /// Rounds of each workload, of which the best counts.
-const ROUNDS: usize = 200;
+const ROUNDS: usize = 1000;
 
 /// What both sides are asked: first what is not measured, then what is.
 struct Work {
@@ -106,21 +106,21 @@ fn line(work: &Work) -> f64 {
 fn awareness(clients: u64, length: usize) -> Work {
     let first = (0..clients).map(|client| bytes::awareness(client, 1, length)).collect();
     let asked = (0..2000u64).map(|i| bytes::awareness(i % clients, 2 + i / clients, length)).collect();
-    Work { name: format!("awareness, {clients} clients, text of {length}"), first, asked, call: Call::Handle }
+    Work { name: format!("awareness, clients: {clients}, text of {length}"), first, asked, call: Call::Handle }
 }
 
 /// Updates of the board, from so many clients in turn; each raises a count.
 fn board(clients: u64) -> Work {
     let first = (0..clients).map(|client| bytes::board(client, 1)).collect();
     let asked = (0..2000u64).map(|i| bytes::board(i % clients, 2 + i / clients)).collect();
-    Work { name: format!("board update, {clients} clients"), first, asked, call: Call::Handle }
+    Work { name: format!("board update, clients: {clients}"), first, asked, call: Call::Handle }
 }
 
 /// Queries that are answered with so many clients.
 fn query(clients: u64) -> Work {
     let first = (0..clients).map(|client| bytes::awareness(client, 1, 64)).collect();
     let asked = (0..100).map(|_| bytes::query()).collect();
-    Work { name: format!("query, {clients} clients, texts of 64"), first, asked, call: Call::Handle }
+    Work { name: format!("query, clients: {clients}, texts of 64"), first, asked, call: Call::Handle }
 }
 
 /// Presence updates that bring each client another text.
@@ -150,22 +150,29 @@ fn copied(work: &Work) -> f64 {
     })
 }
 
+/// Lines for 1, 8 and 63 clients, and how many times as much the port takes at the last as at the first.
+fn growth(work: impl Fn(u64) -> Work) -> f64 {
+    let nanos = [1, 8, 63].map(|clients| line(&work(clients)));
+    nanos[2] / nanos[0]
+}
+
 fn main() {
     println!("| workload | port, a second | Rust, a second | ratio | allocations, port | allocations, Rust |");
     println!("|---|---|---|---|---|---|");
-    for length in [16, 64, 256] {
-        for clients in [1, 8, 63] {
-            line(&awareness(clients, length));
-        }
-    }
-    for clients in [1, 8, 63] {
-        line(&board(clients));
-    }
+    let growths = [
+        ("awareness, text of 16", growth(|clients| awareness(clients, 16))),
+        ("awareness, text of 64", growth(|clients| awareness(clients, 64))),
+        ("awareness, text of 256", growth(|clients| awareness(clients, 256))),
+        ("board update", growth(board)),
+    ];
     line(&query(63));
     line(&apply(63));
     let read = stale();
     let nanos = line(&read);
     println!();
+    for (name, growth) in growths {
+        println!("{name}: a message costs the port {growth:.2} times as much at 63 clients as at 1");
+    }
     println!("reading a text of 256 bytes: {nanos:.0} ns, a plain copy of the same bytes {:.1} ns", copied(&read));
     println!("a hub takes {} bytes", port::size());
 }

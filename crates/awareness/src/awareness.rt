@@ -1,13 +1,14 @@
 // The table of presence records: what entries, sets and removals do to it.
-ghost use Rattle.std.specs.Prelude.{◌≡◌, ℕ, ◌^◌, ◌<◌, ◌≤◌, true, [], length, Ok, Err, Result};
+ghost use Rattle.std.specs.Prelude.{◌≡◌, ℕ, ◌^◌, ◌<◌, ◌≤◌, true, [], length, Ok, Err, Result, MatchResult};
 ghost use Rattle.std.specs.List.{All};
 ghost use Rattle.std.specs.Option.{option_copied};
 ghost use Rattle.std.specs.Result.{result_and, result_map_both};
 ghost use Rattle.encoding.specs.Fields.{client_id};
-ghost use Rattle.state_vector.specs.Tables.{ascends};
+ghost use Rattle.state_vector.specs.Tables.{ascends, Found, Missing};
 ghost use Rattle.awareness.specs.Calls.{judged, rise_for, room_for};
 ghost use Rattle.awareness.specs.Record.{Record, Clients, client_of, held_of, Writable};
 ghost use Rattle.awareness.specs.Changes.{change_by, changes, comes, noted, same};
+ghost use Rattle.awareness.specs.Following.{so_far, stands};
 ghost use Rattle.awareness.specs.Taking.{defies, plain, rises, received, stored, taken};
 
 use crate::change::Change;
@@ -148,23 +149,29 @@ impl Awareness {
         self.table.put(come).unwrap();
     }
 
-    // What an entry does.
-    fn change_of(&self, e: &ArrivedEntry<'_>) -> Change
+    // What an entry does whose client was searched for.
+    fn change_at(&self, place: Result<usize, usize>, e: &ArrivedEntry<'_>) -> Change
+        requires { MatchResult place (Found client_of e.now.client self.now.rows) (Missing client_of e.now.client self.now.rows) }
         ensures change { result ≡ change_by self.now.own (held_of e.now.client self.now.rows) e.now }
         ensures ascends { ascends client_of self.now.rows ≡ true }
     {
-        change_by(self.own, self.table.get(e.client()), e)
+        let held = match place {
+            Ok(at) => Some(&self.records()[at]),
+            Err(_) => None,
+        };
+        change_by(self.own, held, e)
     }
 
-    // Makes the record of an entry's client anew of it, where there is a place.
-    fn renew(&mut self, e: &Arrival<'_>)
-        requires { length (stored self.old.rows (plain e.now.time e.now.entry)) ≤ 64 }
+    // Makes the record of an entry's client anew of it, at the place that a search found.
+    fn renew(&mut self, place: Result<usize, usize>, e: &Arrival<'_>)
+        requires place { MatchResult place (Found client_of e.now.entry.client self.old.rows) (Missing client_of e.now.entry.client self.old.rows) }
+        requires room { length (stored self.old.rows (plain e.now.time e.now.entry)) ≤ 64 }
         ensures rows { self.new.rows ≡ stored self.old.rows (plain e.now.time e.now.entry) }
         ensures own { self.new.own ≡ self.old.own }
     {
         // a look at its state brings in that the entry can be written
         let _state = e.entry.state();
-        self.table.put_made(e.entry.client(), e).unwrap();
+        self.table.put_made(place, e).unwrap();
     }
 
     // Takes an entry that finds a place, and whose clock can rise where it has to: what `receive_anew` does, with the record made where it lies unless the one held is raised.
@@ -175,12 +182,13 @@ impl Awareness {
         ensures rows { self.new.rows ≡ received self.old.own e.now.time self.old.rows e.now.entry }
         ensures own { self.new.own ≡ self.old.own }
     {
-        let change = self.change_of(&e.entry);
+        let place = self.table.find(e.entry.client());
+        let change = self.change_at(place, &e.entry);
         match change {
             Change::Kept => change,
             Change::Raised => self.receive_anew(&e.entry, e.time),
             _ => {
-                self.renew(e);
+                self.renew(place, e);
                 change
             }
         }
@@ -221,14 +229,24 @@ impl Awareness {
         }
     }
 
-    // Whether the own clock could rise where it would have to.
+    // The standing of the own record that was followed so far, or else of the one that is held.
+    fn standing(&self, followed: Option<Standing>) -> Option<Standing>
+        ensures { result ≡ so_far followed (stands (held_of self.now.own self.now.rows)) }
+    {
+        match followed {
+            Some(_) => followed,
+            None => self.table.get(self.own).map(Standing::of),
+        }
+    }
+
+    // Whether the own clock could rise where it would have to; most updates do not name the own client, and then it is not looked up.
     pub(crate) fn judge_own(&self, update: &ArrivedUpdate<'_>) -> Result<(), PresenceFault>
         ensures { (now : ℕ) → result ≡ rise_for (held_of self.now.own (taken self.now.own now self.now.rows update.now)) }
     {
-        let mut own = self.table.get(self.own).map(Standing::of);
+        let mut followed: Option<Standing> = None;
         for e in update.iter() {
             if e.client() == self.own {
-                own = Some(Standing::after(own, &e)?);
+                followed = Some(Standing::after(self.standing(followed), &e)?);
             }
         }
         Ok(())

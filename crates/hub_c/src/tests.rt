@@ -37,7 +37,10 @@ fn each_refusal_has_its_number(rt: HostRuntime) {
         (9, Fault::Presence(PresenceFault::ClientNotFound)),
         (10, Fault::Policy(PolicyFault::PermissionDenied)),
         (11, Fault::Policy(PolicyFault::Unsupported)),
-        (12, Fault::Document(DocumentFault::Unreadable(WireFault::TextTooLong))),
+        (
+            12,
+            Fault::Document(DocumentFault::Unreadable(WireFault::TextTooLong)),
+        ),
         (13, Fault::Document(DocumentFault::TooLarge)),
         (14, Fault::Buffer),
     ];
@@ -52,14 +55,30 @@ fn a_handle_tells_how_far_it_came(rt: HostRuntime) {
     let unreadable = Fault::Document(DocumentFault::Unreadable(WireFault::TextTooLong));
     let mut told = UNTOLD;
     assert_eq!(rt; tell_handled(Err(refusal(unreadable)), &mut told), 12);
-    assert_eq!(rt; told, HubHandled { messages: 2, place: 7, replies: 3, wire: 6 });
+    assert_eq!(rt;
+        told,
+        HubHandled {
+            messages: 2,
+            place: 7,
+            replies: 3,
+            wire: 6
+        }
+    );
     let done = Handled {
         messages: 1,
         place: 4,
         replies: 0,
     };
     assert_eq!(rt; tell_handled(Ok(done), &mut told), 0);
-    assert_eq!(rt; told, HubHandled { messages: 1, place: 4, replies: 0, wire: 0 });
+    assert_eq!(rt;
+        told,
+        HubHandled {
+            messages: 1,
+            place: 4,
+            replies: 0,
+            wire: 0
+        }
+    );
 }
 
 #[test]

@@ -1,8 +1,5 @@
 // What C is told of a call.
 
-
-
-
 // How far a handle came: as its `Handled` says, or its `Refusal`.
 #[repr(C)]
 #[derive(Clone, Copy, Debug, PartialEq, Eq)]

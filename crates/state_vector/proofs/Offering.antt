@@ -1,6 +1,7 @@
 -- An offer after the search: what the table holds, and what is answered.
-use Rattle.std.proofs.Common.{◌≡◌, ℕ, ◌<◌, Bool, true, false, cond, leb, List, length, get_or, set, is_some, Some, None, Ok, Err, sym, refl, ap, ◌∙◌, length-set}
+use Rattle.std.proofs.Common.{◌≡◌, ℕ, ◌<◌, Bool, true, false, cond, leb, List, length, get_or, set, is_some, Some, None, Ok, Err, Result, subst, sym, refl, ap, ◌∙◌, length-set}
 use Rattle.std.specs.List.{insert}
+use Rattle.std.specs.Prelude.{MatchResult}
 use Rattle.arrayvec.specs.ArrayVec.{ArrayVec, with_items}
 use Rattle.arrayvec.proofs.ArrayVecLemmas.{items-with_items}
 use Rattle.std.proofs.lemmas.List.{set-get_or}
@@ -63,3 +64,10 @@ module _ {E : Type 0} (key : E → ℕ) (above : E → E → Bool) (cap : ℕ) (
 -- a write of one entry through the slice of a vector, whose entries are xs
 pub put_over : {E : Type 0} (v : ArrayVec E) (s xs : List E) (i : ℕ) (e : E) → s ≡ v.items → v.items ≡ xs → (with_items v (set s i e)).items ≡ set xs i e
 put_over v s xs i e shown is = items-with_items v (set s i e) (length-set s i e ∙ ap length shown) ∙ ap (λ ys. set ys i e) (shown ∙ is)
+
+-- what is known of a place, by what the search answered
+pub found_at : {E : Type 0} (key : E → ℕ) (c : ℕ) (xs : List E) (place : Result ℕ ℕ) (i : ℕ) → place ≡ Ok i → MatchResult place (Found key c xs) (Missing key c xs) → Found key c xs i
+found_at key c xs place i is known = subst (λ (p : Result ℕ ℕ). MatchResult p (Found key c xs) (Missing key c xs)) is known
+
+pub missing_at : {E : Type 0} (key : E → ℕ) (c : ℕ) (xs : List E) (place : Result ℕ ℕ) (i : ℕ) → place ≡ Err i → MatchResult place (Found key c xs) (Missing key c xs) → Missing key c xs i
+missing_at key c xs place i is known = subst (λ (p : Result ℕ ℕ). MatchResult p (Found key c xs) (Missing key c xs)) is known

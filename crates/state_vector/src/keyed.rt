@@ -204,15 +204,19 @@ impl<E: Keyed + Drop, const N: usize> Table<E, N> {
 }
 
 impl<E: Keyed + Default + Drop, const N: usize> Table<E, N> {
-    // Puts in the entry that is made of what came, as `put` does; where its client is held, it is made where that lies.
-    pub fn put_made<S>(&mut self, client: u64, from: &S) -> Result<Outcome, TableFull>
+    // Puts in the entry that is made of what came, as `put` does, at the place that a search found: an entry that is held there is made anew where it lies.
+    pub fn put_made<S>(
+        &mut self,
+        place: Result<usize, usize>,
+        from: &S,
+    ) -> Result<Outcome, TableFull>
     where
         E: Renew<S>,
-        requires { E.Keyed.key (E.Renew.made from.now) ≡ client }
+        requires { MatchResult place (Found E.Keyed.key (E.Keyed.key (E.Renew.made from.now)) self.old) (Missing E.Keyed.key (E.Keyed.key (E.Renew.made from.now)) self.old) }
         ensures answer { result ≡ outcome E.Keyed.key always N self.old (E.Renew.made from.now) }
         ensures used { self.new ≡ updated E.Keyed.key N self.old (E.Renew.made from.now) }
     {
-        match self.find(client) {
+        match place {
             Ok(at) => {
                 renew_at(&mut self.entries, at, from);
                 Ok(Outcome::Replaced)
