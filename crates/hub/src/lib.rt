@@ -1,6 +1,8 @@
 // A hub: messages handled, one after another.
 #![tactic(auto)]
 
+#[cfg(test)]
+mod endless;
 pub mod hub;
 pub mod live;
 pub mod presence;

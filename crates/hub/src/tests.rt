@@ -1,4 +1,5 @@
 // Examples of a hub: what messages do and what is replied to them, each refusal with what it left, the calls that come to the records, and runs of calls.
+use crate::endless::Endless;
 use crate::hub::Hub;
 use crate::run::{Answer, Call, Lent, run};
 use awareness::clock::StepClock;
@@ -196,6 +197,22 @@ fn step_1_is_replied_to_with_slots(rt: HostRuntime) -> Result<(), Fail> {
     let asked = b"\x00\x00\x03\x01\x05\x02";
     let reply = *b"\x00\x01\x05\x01\x05\x02\x01a\xee";
     assert_eq!(rt; replied(&mut hub, asked), (done(1, 6, 8), reply));
+    Ok(())
+}
+
+// A length past 32 bits is no shorter one.
+#[test]
+fn too_long_a_reply_is_refused(rt: HostRuntime) -> Result<(), Fail> {
+    let mut hub: Hub<Endless, StepClock, DefaultPolicy> = Hub::new(
+        1,
+        StepClock { reading: 100 },
+        DefaultPolicy,
+    )?;
+    let came = (
+        refused(Fault::Buffer, 1, 1, 3),
+        *b"\x01\x01\x00\xee\xee\xee\xee\xee",
+    );
+    assert_eq!(rt; replied(&mut hub, b"\x03\x00\x00\x01\x00"), came);
     Ok(())
 }
 

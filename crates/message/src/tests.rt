@@ -21,32 +21,32 @@ fn fault_of(bytes: &[u8]) -> Option<WireFault> {
 
 #[test]
 fn each_refusal_through_a_message(rt: HostRuntime) {
-    // a clock past 32 bits; an entry that its buffer does not have; a kind that there is not
-    assert_eq!(rt;
-        fault_of(&[1, 9, 1, 7, 0x80, 0x80, 0x80, 0x80, 0x10, 1, 0x30]),
-        Some(WireFault::InvalidVarInt)
-    );
-    assert_eq!(rt; fault_of(&[1, 1, 1, 3]), Some(WireFault::EndOfBuffer));
-    assert_eq!(rt; fault_of(&[0, 3, 0]), Some(WireFault::UnexpectedValue));
-    // a reason and a presence text that are not UTF-8
-    assert_eq!(rt;
-        fault_of(&[2, 0, 1, 0xff]),
-        Some(WireFault::UnexpectedValue)
-    );
-    assert_eq!(rt;
-        fault_of(&[1, 5, 1, 7, 3, 1, 0xff]),
-        Some(WireFault::UnexpectedValue)
-    );
-    // an id of 2^53, and 65 entries, in a vector and in a presence update
-    assert_eq!(rt;
-        fault_of(&[
-            0, 0, 10, 1, 0x80, 0x80, 0x80, 0x80, 0x80, 0x80, 0x80, 0x10, 1,
-        ],),
-        Some(WireFault::InvalidClientId)
-    );
-    assert_eq!(rt; fault_of(&[0, 0, 1, 65]), Some(WireFault::TooManyEntries));
-    assert_eq!(rt; fault_of(&[1, 1, 65]), Some(WireFault::TooManyEntries));
-    assert_eq!(rt; fault_of(&[0, 0, 3, 1, 5, 1]), None);
+    let table: [(&[u8], Option<WireFault>); 9] = [
+        // a clock past 32 bits; an entry that its buffer does not have; a kind that there is not
+        (
+            b"\x01\x09\x01\x07\x80\x80\x80\x80\x10\x010",
+            Some(WireFault::InvalidVarInt),
+        ),
+        (b"\x01\x01\x01\x03", Some(WireFault::EndOfBuffer)),
+        (b"\x00\x03\x00", Some(WireFault::UnexpectedValue)),
+        // a reason and a presence text that are not UTF-8
+        (b"\x02\x00\x01\xff", Some(WireFault::UnexpectedValue)),
+        (
+            b"\x01\x05\x01\x07\x03\x01\xff",
+            Some(WireFault::UnexpectedValue),
+        ),
+        // an id of 2^53, and 65 entries, in a vector and in a presence update
+        (
+            b"\x00\x00\x0a\x01\x80\x80\x80\x80\x80\x80\x80\x10\x01",
+            Some(WireFault::InvalidClientId),
+        ),
+        (b"\x00\x00\x01\x41", Some(WireFault::TooManyEntries)),
+        (b"\x01\x01\x41", Some(WireFault::TooManyEntries)),
+        (b"\x00\x00\x03\x01\x05\x01", None),
+    ];
+    for (bytes, fault) in table {
+        assert_eq!(rt; fault_of(bytes), fault);
+    }
 }
 
 // A presence text of 257 bytes, as a message.
@@ -56,26 +56,31 @@ fn long_text() -> [u8; 265] {
     m
 }
 
+// The fault of that message with some bytes in the place of others.
+fn fault_with(others: &[(usize, u8)]) -> Option<WireFault> {
+    let mut m = long_text();
+    for (at, other) in others {
+        if let Some(b) = m.get_mut(*at) {
+            *b = *other;
+        }
+    }
+    fault_of(&m)
+}
+
 #[test]
 fn a_presence_text_has_256_bytes_at_most(rt: HostRuntime) {
-    let mut m = long_text();
-    assert_eq!(rt; fault_of(&m), Some(WireFault::TextTooLong));
-    m[100] = 0xff;
-    assert_eq!(rt;
-        fault_of(&m),
-        Some(WireFault::UnexpectedValue),
-        "too long and not UTF-8"
-    );
-    m[100] = b'a';
-    m[6] = 0x82;
-    assert_eq!(rt;
-        fault_of(&m),
-        Some(WireFault::EndOfBuffer),
-        "too long and cut"
-    );
-    m[1] = 0x85;
-    m[6] = 0x80;
-    assert_eq!(rt; fault_of(&m), None, "256 bytes");
+    let table: [(&[(usize, u8)], Option<WireFault>); 4] = [
+        (&[], Some(WireFault::TextTooLong)),
+        // too long and not UTF-8
+        (&[(100, 0xff)], Some(WireFault::UnexpectedValue)),
+        // too long and cut
+        (&[(6, 0x82)], Some(WireFault::EndOfBuffer)),
+        // 256 bytes
+        (&[(1, 0x85), (6, 0x80)], None),
+    ];
+    for (others, fault) in table {
+        assert_eq!(rt; fault_with(others), fault);
+    }
 }
 
 // How many messages there are, and the place where they end otherwise than with the bytes.
@@ -94,23 +99,19 @@ fn row_of(bytes: &[u8]) -> (usize, Option<usize>) {
 
 #[test]
 fn rows_of_messages_and_their_ends(rt: HostRuntime) {
-    assert_eq!(rt; row_of(&[]), (0, None));
-    assert_eq!(rt; row_of(&[3, 3, 3]), (3, None));
-    assert_eq!(rt;
-        row_of(&[3, 3, 3, 3, 3]),
-        (4, None),
-        "more than there are places"
-    );
-    assert_eq!(rt; row_of(&[1, 2, 1]), (0, Some(0)), "cut short");
-    assert_eq!(rt;
-        row_of(&[3, 1, 8, 1, 7, 3, 4, 0x22, 0x69, 0x6e, 0x22, 0]),
-        (2, Some(11))
-    );
-    assert_eq!(rt;
-        row_of(&[3, 1, 1, 1, 3]),
-        (1, Some(1)),
-        "cut inside a buffer: refused"
-    );
+    let table: [(&[u8], usize, Option<usize>); 6] = [
+        (b"", 0, None),
+        (b"\x03\x03\x03", 3, None),
+        // more than there are places
+        (b"\x03\x03\x03\x03\x03", 4, None),
+        // cut short, and cut inside a buffer, which is refused
+        (b"\x01\x02\x01", 0, Some(0)),
+        (b"\x03\x01\x08\x01\x07\x03\x04\"in\"\x00", 2, Some(11)),
+        (b"\x03\x01\x01\x01\x03", 1, Some(1)),
+    ];
+    for (bytes, count, place) in table {
+        assert_eq!(rt; row_of(bytes), (count, place));
+    }
 }
 
 #[test]
@@ -131,8 +132,8 @@ fn check_written<M: Outgoing>(rt: &impl Abort, m: &M, bytes: &[u8]) -> Result<()
     assert_eq!(rt; out.get(0..n), Some(bytes));
     let mut short = [0xee; 16];
     let past = 17usize.saturating_sub(bytes.len());
-    assert_eq!(rt; write_at(m, &mut short, past), Err(WriteFault::Short));
-    assert_eq!(rt; short, [0xee; 16]);
+    let refused = write_at(m, &mut short, past);
+    assert_eq!(rt; (refused, short), (Err(WriteFault::Short), [0xee; 16]));
     Ok(())
 }
 
@@ -183,17 +184,24 @@ fn update_of(entries: &[PresenceEntry]) -> Result<PresenceUpdate, WireFault> {
 
 #[test]
 fn a_presence_update_is_written_as_awareness(rt: HostRuntime) -> Result<(), Fail> {
-    let text = update_of(&[live(7, 3, b"\"in\"")])?;
-    check_written(&rt, &text, b"\x01\x08\x01\x07\x03\x04\"in\"")?;
     let null = PresenceEntry {
         client: 7,
         clock: 3,
         state: None,
     };
-    check_written(&rt, &update_of(&[null])?, b"\x01\x08\x01\x07\x03\x04null")?;
-    // ascending, and a later entry in the place of an earlier one
-    let three = update_of(&[live(9, 1, b"1"), live(7, 1, b"2"), live(9, 2, b"3")])?;
-    check_written(&rt, &three, b"\x01\x09\x02\x07\x01\x012\x09\x02\x013")
+    let table: [(&[PresenceEntry], &[u8]); 3] = [
+        (&[live(7, 3, b"\"in\"")], b"\x01\x08\x01\x07\x03\x04\"in\""),
+        (&[null], b"\x01\x08\x01\x07\x03\x04null"),
+        // ascending, and a later entry in the place of an earlier one
+        (
+            &[live(9, 1, b"1"), live(7, 1, b"2"), live(9, 2, b"3")],
+            b"\x01\x09\x02\x07\x01\x012\x09\x02\x013",
+        ),
+    ];
+    for (entries, bytes) in table {
+        check_written(&rt, &update_of(entries)?, bytes)?;
+    }
+    Ok(())
 }
 
 #[test]
@@ -219,14 +227,15 @@ fn refusal(client: u64, text: &[u8]) -> Option<WireFault> {
 fn a_presence_is_judged_when_it_is_made(rt: HostRuntime) {
     let id = 9007199254740992;
     let long = [b'a'; 257];
-    assert_eq!(rt; refusal(id, b"1"), Some(WireFault::InvalidClientId));
-    assert_eq!(rt; refusal(7, &long), Some(WireFault::TextTooLong));
-    assert_eq!(rt;
-        refusal(id, &long),
-        Some(WireFault::InvalidClientId),
-        "both"
-    );
-    assert_eq!(rt; refusal(id - 1, &long[0..256]), None);
+    let table: [(u64, &[u8], Option<WireFault>); 4] = [
+        (id, b"1", Some(WireFault::InvalidClientId)),
+        (7, &long, Some(WireFault::TextTooLong)),
+        (id, &long, Some(WireFault::InvalidClientId)),
+        (id - 1, &long[..256], None),
+    ];
+    for (client, text, fault) in table {
+        assert_eq!(rt; refusal(client, text), fault);
+    }
 }
 
 #[test]
