@@ -16,7 +16,7 @@ use std::time::Instant;
 static ALLOCATOR: Counting = Counting;
 
 /// Rounds of each workload, of which the best counts.
-const ROUNDS: usize = 1000;
+const ROUNDS: usize = 200;
 
 /// What both sides are asked: first what is not measured, then what is.
 struct Work {
