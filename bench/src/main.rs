@@ -166,7 +166,7 @@ fn main() {
         ("board update", growth(board)),
     ];
     line(&query(63));
-    line(&apply(63));
+    line(&apply(64));
     let read = stale();
     let nanos = line(&read);
     println!();

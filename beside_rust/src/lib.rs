@@ -97,7 +97,7 @@ pub mod answer;
 pub mod call;
 pub mod hub;
 pub mod judge;
-mod memory;
+pub mod memory;
 pub mod oracle;
 pub mod reading;
 pub mod wire;

@@ -1,8 +1,8 @@
-//! The memory that all of this crate's programs have.
+//! The memory that the oracle has.
 use std::alloc::{GlobalAlloc, Layout, System};
 
 /// Grants no piece of memory above 64 MiB, so that a count that asks for more fails here as it would on any small machine.
-struct Bounded;
+pub struct Bounded;
 
 // SAFETY: every call is handed on to the system's allocator, or answered by the null that stands for a failure.
 unsafe impl GlobalAlloc for Bounded {
@@ -17,6 +17,3 @@ unsafe impl GlobalAlloc for Bounded {
         unsafe { System.dealloc(at, layout) }
     }
 }
-
-#[global_allocator]
-static MEMORY: Bounded = Bounded;

@@ -2,10 +2,14 @@
 //! With `--pairs` calls are printed as pairs, each with `= ` and its answer, or why that is not compared; and in the end, on standard error, how many there were.
 use beside_rust::answer::{Answer, Mark, Otherwise, Reason};
 use beside_rust::call::{BadCall, Call};
+use beside_rust::memory::Bounded;
 use beside_rust::oracle::Oracle;
 use std::collections::BTreeMap;
 use std::fmt;
 use std::io::{self, BufRead, BufWriter, Write};
+
+#[global_allocator]
+static MEMORY: Bounded = Bounded;
 
 /// How many calls were answered, by what may be held against the port's answer.
 #[derive(Default)]

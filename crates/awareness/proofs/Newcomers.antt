@@ -31,6 +31,17 @@ module _ (own now : ℕ) where
   length_most rows [] = omega arith
   length_most rows (e ∷ es) = let h = length_most (received own now rows e) es in omega (arith, length_entered client_of above rows (newcomer own now (held_of e.client rows) e))
 
+  -- an entry takes a place where its client is not held
+  long_after : (rows : List Record) (e : Entry) → ascends client_of rows ≡ true → length (received own now rows e) ≡ cond (is_some (held_of e.client rows)) (length rows) (length rows + 1)
+  long_after rows e up = length_then client_of above rows (newcomer own now (held_of e.client rows) e) up ∙ ap (λ c. cond (is_some (held_of c rows)) (length rows) (length rows + 1)) (comes_as own now rows e)
+
+  -- so one that is held has room, and of no other where all places are taken
+  pub known_passes : (rows : List Record) (e : Entry) → ascends client_of rows ≡ true → is_some (held_of e.client rows) ≡ true → length rows ≤ 64 → Ok tt ≡ room_for (received own now rows e)
+  known_passes rows e up k l = room_passes (received own now rows e) (omega (arith, l, long_after rows e up ∙ cond-true (is_some (held_of e.client rows)) (length rows) (length rows + 1) k))
+
+  pub new_fails : (rows : List Record) (e : Entry) → ascends client_of rows ≡ true → is_some (held_of e.client rows) ≡ false → 64 ≤ length rows → Err TooManyClients ≡ room_for (received own now rows e)
+  new_fails rows e up k l = room_fails (received own now rows e) (omega (arith, l, long_after rows e up ∙ cond-false (is_some (held_of e.client rows)) (length rows) (length rows + 1) k))
+
   -- the table so far has the clients of before and the new ones, so many as both
   pub record CountsNew (before : List Record) (all : List Entry) (here : List Record) (new : List ℕ) (es : List Entry) : Type 0 where
     pub up : ascends client_of here ≡ true
@@ -67,7 +78,7 @@ module _ (own now : ℕ) where
     rest_then = s.rest ∙ ap (taken own now here) is
 
     long_then : length (received own now here e) ≡ cond (is_some (held_of e.client here)) (length here) (length here + 1)
-    long_then = length_then client_of above here (newcomer own now (held_of e.client here) e) s.up ∙ ap (λ c. cond (is_some (held_of c here)) (length here) (length here + 1)) (comes_as own now here e)
+    long_then = long_after here e s.up
 
     who_is_then : (c : ℕ) → is_some (held_of c (received own now here e)) ≡ (is_some (held_of c here) || eqb e.client c)
     who_is_then c = who_then client_of above here (newcomer own now (held_of e.client here) e) c s.up ∙ ap (λ n. is_some (held_of c here) || eqb n c) (comes_as own now here e)

@@ -1,11 +1,10 @@
 -- The lists that an observer keeps are those of the changes that it was told.
 use Rattle.std.proofs.Common.{◌≡◌, ℕ, ◌+◌, ◌≤◌, Bool, true, false, cond, List, [], ◌∷◌, map, filter, length, Ok, Err, Result, sym, refl, ap, ◌∙◌, arith}
 use Rattle.std.proofs.lemmas.Bool.{cond-false}
-use Rattle.encoding.specs.declared.fault.WireFault.{WireFault}
 use Rattle.encoding.specs.Reading.{Reading}
 use Rattle.message.specs.Arrived.{alone}
 use Rattle.awareness.specs.declared.fault.PresenceFault.{PresenceFault}
-use Rattle.awareness.specs.Calls.{Settled, apply, applied, brought, judged, settled_at}
+use Rattle.awareness.specs.Calls.{Settled, apply, applied, judged, settled_at}
 use Rattle.state_vector.specs.Tables.{always, entered, full, row, updated}
 use Rattle.state_vector.proofs.Entering.{length_entered}
 use Rattle.message.specs.Presence.{Entry}
@@ -62,20 +61,13 @@ seen_lists s t xs none is l =
     ∙ ap (λ l. record { added = listed is_added xs; updated = listed is_updated xs; changed = l; removed = fold is_removed [] xs }) c
     ∙ ap (λ l. record { added = listed is_added xs; updated = listed is_updated xs; changed = listed is_changed xs; removed = l }) r
 
--- an update that was read and can be taken
-pub taken_whole : (fits : Bool) (own now : ℕ) (rows : List Record) (v : Reading (List Entry)) (es : List Entry) (u : Unit {0}) → fits ≡ true → alone v ≡ Ok es → judged own (taken own now rows es) ≡ Ok u → apply fits own now rows v ≡ record { answer = Ok tt; rows = taken own now rows es; changes = changes own now rows es }
-taken_whole fits own now rows v es u f a j = ap (λ b. apply b own now rows v) f ∙ by v a ∙ settled (judged own (taken own now rows es)) j where
-  settled : (r : Result (Unit {0}) PresenceFault) → r ≡ Ok u → settled_at r rows (taken own now rows es) (changes own now rows es) ≡ record { answer = Ok tt; rows = taken own now rows es; changes = changes own now rows es }
-  settled (Ok w) q = refl
-  settled (Err e) q = cc
-
-  by : (v : Reading (List Entry)) → alone v ≡ Ok es → applied own now rows v ≡ brought own now rows es
-  by (Ok p) q = ap (brought own now rows) (value p.0 q) where
-    value : (xs : List Entry) → ◌≡◌ {A = Result (List Entry) WireFault} (Ok xs) (Ok es) → xs ≡ es
-    value xs q = cc
-  by (Err e) q = absurd (never q) where
-    never : ◌≡◌ {A = Result (List Entry) WireFault} (Err e) (Ok es) → ⊥
-    never z = cc
+-- an update of 64 entries at most has no more changes
+few_changes : (own now : ℕ) (rows : List Record) (v : Reading (List Entry)) → ((es : List Entry) → alone v ≡ Ok es → length es ≤ 64) → length (applied own now rows v).changes ≤ 64
+few_changes own now rows (Ok p) few = by (judged own (taken own now rows p.0)) where
+  by : (r : Result (Unit {0}) PresenceFault) → length (settled_at r rows (taken own now rows p.0) (changes own now rows p.0)).changes ≤ 64
+  by (Ok u) = omega (arith, length_changes own now rows p.0, few p.0 refl)
+  by (Err f) = omega arith
+few_changes own now rows (Err f) few = omega arith
 
 -- what an update that was taken whole is told as
 pub record Told (fits : Bool) (own now : ℕ) (rows : List Record) (v : Reading (List Entry)) (t : Seen) : Type 0 where
@@ -85,16 +77,15 @@ pub record Told (fits : Bool) (own now : ℕ) (rows : List Record) (v : Reading 
   pub changed : t.changed ≡ listed is_changed (apply fits own now rows v).changes
   pub removed : t.removed ≡ listed is_removed (apply fits own now rows v).changes
 
-pub told_so : (fits : Bool) (own now : ℕ) (rows : List Record) (v : Reading (List Entry)) (es : List Entry) (u : Unit {0}) (s t : Seen) → fits ≡ true → alone v ≡ Ok es → judged own (taken own now rows es) ≡ Ok u → length es ≤ 64
-    → s ≡ record { added = []; updated = []; changed = []; removed = [] } → t ≡ noted seen_after s (brought own now rows es).changes → Told fits own now rows v t
-told_so fits own now rows v es u s t f a j few none told =
-    let whole = taken_whole fits own now rows v es u f a j in
-    let brings = taken_whole true own now rows (Ok (es, [])) es u refl refl j in
-    let lists = seen_lists s t (changes own now rows es) none (told ∙ ap (λ (x : Settled). noted seen_after s x.changes) brings) (omega (arith, length_changes own now rows es, few)) in
+pub told_so : (fits : Bool) (own now : ℕ) (rows : List Record) (v : Reading (List Entry)) (u : Unit {0}) (s t : Seen) → fits ≡ true → (applied own now rows v).answer ≡ Ok u → ((es : List Entry) → alone v ≡ Ok es → length es ≤ 64)
+    → s ≡ record { added = []; updated = []; changed = []; removed = [] } → t ≡ noted seen_after s (applied own now rows v).changes → Told fits own now rows v t
+told_so fits own now rows v u s t f a few none told =
+    let is : apply fits own now rows v ≡ applied own now rows v = ap (λ b. apply b own now rows v) f in
+    let lists = seen_lists s t (applied own now rows v).changes none told (few_changes own now rows v few) in
     record {
-      answer = ap (λ (x : Settled). x.answer) whole;
-      added = ap (λ (x : Seen). x.added) lists ∙ sym (ap (λ (x : Settled). listed is_added x.changes) whole);
-      updated = ap (λ (x : Seen). x.updated) lists ∙ sym (ap (λ (x : Settled). listed is_updated x.changes) whole);
-      changed = ap (λ (x : Seen). x.changed) lists ∙ sym (ap (λ (x : Settled). listed is_changed x.changes) whole);
-      removed = ap (λ (x : Seen). x.removed) lists ∙ sym (ap (λ (x : Settled). listed is_removed x.changes) whole);
+      answer = ap (λ (x : Settled). x.answer) is ∙ a;
+      added = ap (λ (x : Seen). x.added) lists ∙ sym (ap (λ (x : Settled). listed is_added x.changes) is);
+      updated = ap (λ (x : Seen). x.updated) lists ∙ sym (ap (λ (x : Settled). listed is_updated x.changes) is);
+      changed = ap (λ (x : Seen). x.changed) lists ∙ sym (ap (λ (x : Settled). listed is_changed x.changes) is);
+      removed = ap (λ (x : Seen). x.removed) lists ∙ sym (ap (λ (x : Settled). listed is_removed x.changes) is);
     }

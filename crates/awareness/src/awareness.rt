@@ -1,5 +1,5 @@
 // The table of presence records: what entries, sets and removals do to it.
-ghost use Rattle.std.specs.Prelude.{◌≡◌, ℕ, ◌^◌, ◌<◌, ◌≤◌, true, [], length, Ok, Err, Result, MatchResult};
+ghost use Rattle.std.specs.Prelude.{◌≡◌, ℕ, ◌^◌, ◌<◌, ◌≤◌, true, [], ◌∷◌, length, Ok, Err, Result, MatchResult};
 ghost use Rattle.std.specs.List.{All};
 ghost use Rattle.std.specs.Option.{option_copied};
 ghost use Rattle.std.specs.Result.{result_and, result_map_both};
@@ -164,9 +164,9 @@ impl Awareness {
 
     // Makes the record of an entry's client anew of it, at the place that a search found.
     fn renew(&mut self, place: Result<usize, usize>, e: &Arrival<'_>)
-        requires place { MatchResult place (Found client_of e.now.entry.client self.old.rows) (Missing client_of e.now.entry.client self.old.rows) }
-        requires room { length (stored self.old.rows (plain e.now.time e.now.entry)) ≤ 64 }
-        ensures rows { self.new.rows ≡ stored self.old.rows (plain e.now.time e.now.entry) }
+        requires place { MatchResult place (Found client_of e.now.entry.now.client self.old.rows) (Missing client_of e.now.entry.now.client self.old.rows) }
+        requires room { length (stored self.old.rows (plain e.now.time e.now.entry.now)) ≤ 64 }
+        ensures rows { self.new.rows ≡ stored self.old.rows (plain e.now.time e.now.entry.now) }
         ensures own { self.new.own ≡ self.old.own }
     {
         // a look at its state brings in that the entry can be written
@@ -175,23 +175,35 @@ impl Awareness {
     }
 
     // Takes an entry that finds a place, and whose clock can rise where it has to: what `receive_anew` does, with the record made where it lies unless the one held is raised.
-    fn receive(&mut self, e: &Arrival<'_>) -> Change
-        requires room { length (received self.old.own e.now.time self.old.rows e.now.entry) ≤ 64 }
-        requires rises { rises self.old.own (held_of e.now.entry.client self.old.rows) e.now.entry ≡ true }
-        ensures change { result ≡ change_by self.old.own (held_of e.now.entry.client self.old.rows) e.now.entry }
-        ensures rows { self.new.rows ≡ received self.old.own e.now.time self.old.rows e.now.entry }
+    pub(crate) fn receive_at(&mut self, place: Result<usize, usize>, e: &Arrival<'_>) -> Change
+        requires place { MatchResult place (Found client_of e.now.entry.now.client self.old.rows) (Missing client_of e.now.entry.now.client self.old.rows) }
+        requires room { length (received self.old.own e.now.time self.old.rows e.now.entry.now) ≤ 64 }
+        requires rises { rises self.old.own (held_of e.now.entry.now.client self.old.rows) e.now.entry.now ≡ true }
+        ensures change { result ≡ change_by self.old.own (held_of e.now.entry.now.client self.old.rows) e.now.entry.now }
+        ensures rows { self.new.rows ≡ received self.old.own e.now.time self.old.rows e.now.entry.now }
         ensures own { self.new.own ≡ self.old.own }
     {
-        let place = self.table.find(e.entry.client());
-        let change = self.change_at(place, &e.entry);
+        let change = self.change_at(place, e.entry);
         match change {
             Change::Kept => change,
-            Change::Raised => self.receive_anew(&e.entry, e.time),
+            Change::Raised => self.receive_anew(e.entry, e.time),
             _ => {
                 self.renew(place, e);
                 change
             }
         }
+    }
+
+    // Searches for the entry's client, and takes it so.
+    fn receive(&mut self, e: &Arrival<'_>) -> Change
+        requires room { length (received self.old.own e.now.time self.old.rows e.now.entry.now) ≤ 64 }
+        requires rises { rises self.old.own (held_of e.now.entry.now.client self.old.rows) e.now.entry.now ≡ true }
+        ensures change { result ≡ change_by self.old.own (held_of e.now.entry.now.client self.old.rows) e.now.entry.now }
+        ensures rows { self.new.rows ≡ received self.old.own e.now.time self.old.rows e.now.entry.now }
+        ensures own { self.new.own ≡ self.old.own }
+    {
+        let place = self.table.find(e.entry.client());
+        self.receive_at(place, e)
     }
 
     // The same in two steps: what an entry does, and then the record that comes in with it.
@@ -252,6 +264,34 @@ impl Awareness {
         Ok(())
     }
 
+    // Whether there is room for an entry that came alone, and whose client was searched for.
+    pub(crate) fn judge_place(
+        &self,
+        place: Result<usize, usize>,
+        e: &ArrivedEntry<'_>,
+    ) -> Result<(), PresenceFault>
+        requires { MatchResult place (Found client_of e.now.client self.now.rows) (Missing client_of e.now.client self.now.rows) }
+        ensures { (now : ℕ) → result ≡ room_for (taken self.now.own now self.now.rows (e.now ∷ [])) }
+    {
+        if self.table.len() < MAX_ENTRIES {
+            return Ok(());
+        }
+        match place {
+            Ok(_) => Ok(()),
+            Err(_) => Err(PresenceFault::TooManyClients),
+        }
+    }
+
+    // Whether the own clock could rise where an entry that came alone makes it.
+    pub(crate) fn judge_rise(&self, e: &ArrivedEntry<'_>) -> Result<(), PresenceFault>
+        ensures { (now : ℕ) → result ≡ rise_for (held_of self.now.own (taken self.now.own now self.now.rows (e.now ∷ []))) }
+    {
+        if e.client() == self.own {
+            Standing::after(self.standing(None), e)?;
+        }
+        Ok(())
+    }
+
     // Takes the entries of an update that was judged, and tells of each change.
     pub(crate) fn take<O: Observer>(&mut self, update: &ArrivedUpdate<'_>, now: u64, seen: &mut O)
         requires { judged self.old.own (taken self.old.own now self.old.rows update.now) ≡ Ok tt }
@@ -263,12 +303,11 @@ impl Awareness {
         // a look at a field brings in that the records ascend
         let _held = &self.own;
         for e in update.iter() {
-            let e = Arrival {
-                entry: e,
+            let change = self.receive(&Arrival {
+                entry: &e,
                 time: now,
-            };
-            let change = self.receive(&e);
-            seen.note(e.entry.client(), change);
+            });
+            seen.note(e.client(), change);
         }
     }
 }

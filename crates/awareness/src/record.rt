@@ -99,19 +99,19 @@ impl Keyed for Record {
 // An entry that came at a time.
 #[derive(Drop)]
 pub(crate) struct Arrival<'a> {
-    pub(crate) entry: ArrivedEntry<'a>,
+    pub(crate) entry: &'a ArrivedEntry<'a>,
     pub(crate) time: u64,
 }
 
 impl Renew<Arrival<'_>> for Record {
-    ghost made = { λ a. plain a.time a.entry };
+    ghost made = { λ a. plain a.time a.entry.now };
 
     // As the record of the entry, made where a record lies.
     fn renew(&mut self, from: &Arrival<'_>) {
         // a look at its state brings in that the entry can be written
         let _state = from.entry.state();
         let Record { presence, time } = self;
-        presence.renew(&from.entry);
+        presence.renew(from.entry);
         *time = from.time;
     }
 }

@@ -76,6 +76,15 @@ impl Site {
         Ok([told.added, told.updated, told.changed, told.removed])
     }
 
+    // By a walk over the entries of the update, also where it has one alone.
+    fn walk(&mut self, update: &[u8]) -> Result<(), AwarenessFault> {
+        let update = ArrivedUpdate::read(update)?;
+        Ok(
+            self.hub
+                .apply_update(&update, &mut self.clock, &mut Nobody)?,
+        )
+    }
+
     // How many clients each list has then; what is no update tells of none.
     fn ask(&mut self, ask: Ask) -> Result<[usize; 4], AwarenessFault> {
         match ask {
@@ -490,6 +499,34 @@ fn an_update_is_taken_with_nobody_told(rt: HostRuntime) -> Result<(), Fail> {
     let update = ArrivedUpdate::read(b"\x01\x07\x03\x01a")?;
     hub.apply_update(&update, &mut SetClock { reading: 7 }, &mut Nobody)?;
     assert_eq!(rt; hub.records().len(), 1);
+    Ok(())
+}
+
+// An entry that comes alone is taken in one reading, and does what a walk over its update does.
+#[test]
+fn an_entry_alone_does_what_its_update_does(rt: HostRuntime) -> Result<(), Fail> {
+    let updates: [&[u8]; 8] = [
+        b"\x01\x01\x05\x01a",
+        b"\x01\x01\x05\x04null",
+        b"\x01\x01\xff\xff\xff\xff\x0f\x04null",
+        b"\x01\x07\x03\x01a",
+        b"\x01\x07\x03\x01b",
+        b"\x01\x07\x03\x04null",
+        b"\x01\x07\x04",
+        b"\x00",
+    ];
+    let mut alone = Site::new()?;
+    let mut walked = Site::new()?;
+    for update in updates {
+        let answer = alone.hub.apply_bytes(update, &mut alone.clock, &mut Nobody);
+        assert_eq!(rt; answer, walked.walk(update));
+        for client in [1, 7] {
+            assert_eq!(rt; alone.held(client)?, walked.held(client)?);
+        }
+    }
+    assert_eq!(rt; alone.clock.reading, walked.clock.reading);
+    assert_eq!(rt; alone.held(1)?, Held::Live(6, 101));
+    assert_eq!(rt; alone.held(7)?, Held::Null(3, 104));
     Ok(())
 }
 

@@ -24,7 +24,6 @@ use calls::policy::Policy;
 use document::host::DocumentHost;
 use encoding::sink::fill;
 use encoding::write::spelling;
-use message::arrived::ArrivedUpdate;
 use message::message::{MSG_SYNC, MSG_SYNC_STEP_2, Message, read_message};
 use message::write::write_at;
 use state_vector::vector::StateVector;
@@ -138,9 +137,8 @@ impl<H: DocumentHost, C: Clock, P: Policy> Hub<H, C, P> {
         ensures policy { self.new.policy ≡ self.old.policy }
         ensures refused { is_ok result ≡ false → self.new.presence ≡ self.old.presence }
     {
-        let update = ArrivedUpdate::read(part)?;
         self.presence
-            .apply_update(&update, &mut self.clock, &mut Nobody)?;
+            .apply_bytes(part, &mut self.clock, &mut Nobody)?;
         Ok(())
     }
 

@@ -1,16 +1,18 @@
 -- Entries that were read once, walked through again.
-use Rattle.std.proofs.Common.{◌≡◌, ℕ, zero, suc, ◌-◌, ◌^◌, true, List, ◌∷◌, length, is_ok, Ok, Err, Result, sym, refl, ap, ◌∙◌, subst, arith}
+use Rattle.std.proofs.Common.{◌≡◌, ℕ, zero, suc, ◌-◌, ◌^◌, ◌≤◌, Bool, true, false, cond, leb, List, ◌∷◌, length, is_ok, None, Ok, Err, Result, sym, refl, ap, ◌∙◌, subst, arith}
+use Rattle.std.proofs.lemmas.Bool.{leb-true}
 use Rattle.std.specs.Borrow.{Bor}
 use Rattle.encoding.specs.declared.fault.WireFault.{WireFault}
 use Rattle.encoding.specs.Entries.{entries, past, past_of}
-use Rattle.encoding.specs.Fields.{buffer, client_id_in, presence_text, presence_text_in}
+use Rattle.encoding.specs.declared.fault.WireFault.TheVariants.{TooManyEntries}
+use Rattle.encoding.specs.Fields.{buffer, client_id_in, count, count_in, presence_text, presence_text_in}
 use Rattle.encoding.specs.Reading.{Reading, thence, named, read_as}
 use Rattle.encoding.specs.VarUint.{var_uint}
 use Rattle.encoding.proofs.Exacts.{ok_is, never, came, named_came, tested}
 use Rattle.message.specs.declared.presence.PresenceEntry.{PresenceEntry}
-use Rattle.message.specs.Arrived.{passed_entry, listed, due, alone}
+use Rattle.message.specs.Arrived.{passed_entry, listed, due, alone, single}
 use Rattle.message.specs.Owned.{state_text}
-use Rattle.message.specs.Presence.{Entry, entry_is, state_of, presence_entry}
+use Rattle.message.specs.Presence.{Entry, entry_is, state_of, presence_entry, presence}
 use Rattle.message.specs.Writing.{Readable}
 use Rattle.message.proofs.Contents.{exact_presence_entry, state_says}
 
@@ -106,3 +108,36 @@ step_of (suc m) s r h k i =
       others = λ p j. subst (λ k. is_ok (entries presence_entry k p.1.now) ≡ true) (sym one_less) (subst (λ l. is_ok (entries presence_entry m l) ≡ true) (sym (is p j).1) f.others);
       are = λ p j. f.are ∙ ap (λ x. x ∷ due m f.rest) (sym (is p j).0) ∙ ap (λ l. entry_is p.0 ∷ due m l) (sym (is p j).1) ∙ ap (λ k. entry_is p.0 ∷ due k p.1.now) (sym one_less);
     }
+
+-- where another number of entries was declared there is no single one
+pub not_single : (n : ℕ) (s : List ℕ) → (n ≡ 1 → ⊥) → None ≡ single (entries presence_entry n s)
+not_single zero s h = refl
+not_single (suc zero) s h = absurd (h refl)
+not_single (suc (suc n)) s h = by_first (presence_entry s) where
+  by_others : (e f : Entry) (v : Reading (List Entry)) → None ≡ single (named (λ xs. e ∷ xs) (named (λ xs. f ∷ xs) v))
+  by_others e f (Ok p) = refl
+  by_others e f (Err g) = refl
+
+  by_second : (e : Entry) (r : Reading Entry) → None ≡ single (named (λ xs. e ∷ xs) (thence r (λ f rest. named (λ xs. f ∷ xs) (entries presence_entry n rest))))
+  by_second e (Ok p) = by_others e p.0 (entries presence_entry n p.1)
+  by_second e (Err g) = refl
+
+  by_first : (r : Reading Entry) → None ≡ single (thence r (λ e rest. named (λ xs. e ∷ xs) (entries presence_entry (suc n) rest)))
+  by_first (Ok p) = by_second p.0 (presence_entry p.1)
+  by_first (Err g) = refl
+
+-- an update that was read has 64 entries at most
+pub few_entries : (s : List ℕ) (es : List Entry) → alone (presence s) ≡ Ok es → length es ≤ 64
+unfolding presence
+few_entries s es h = by_reading (presence s) refl h where
+  small : (b : Bool) → ◌≡◌ {A = Result (Unit {0}) WireFault} (cond b (Ok tt) (Err TooManyEntries)) (Ok tt) → b ≡ true
+  small true q = refl
+  small false q = cc
+
+  by_reading : (v : Reading (List Entry)) → presence s ≡ v → alone v ≡ Ok es → length es ≤ 64
+  by_reading (Ok p) is j =
+      let (n, mid, r, k) = came (count_in 64) (entries presence_entry) s p.0 p.1 (count_in 64 s) refl is in
+      let (b, good) = tested count (var_uint (2 ^ 64 - 1)) s n mid (var_uint (2 ^ 64 - 1) s) refl r in
+      let same : p.0 ≡ es = cc in
+      omega (arith, leb-true n 64 (small (leb n 64) good), length_listed presence_entry n mid (ap is_ok k), ap (λ v. length (listed v)) k, ap length same)
+  by_reading (Err f) is j = absurd (never j)

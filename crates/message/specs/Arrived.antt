@@ -2,9 +2,10 @@
 --   passed_entry   an entry whose text has been judged before
 --   listed        what was read, as a list
 --   due           the entries that so many bytes still hold
---   updated_in    an update, or why there is none
+--   alone         an update without the bytes after it, or why there is none
+--   single        the entry of an update that has no other
 --   Walks         one step of the walk over entries
-use Rattle.std.specs.Prelude.{◌≡◌, ℕ, ◌-◌, ◌^◌, List, [], ◌∷◌, Ok, Err, Option, MatchOption, Result}
+use Rattle.std.specs.Prelude.{◌≡◌, ℕ, ◌-◌, ◌^◌, List, [], ◌∷◌, Some, None, Ok, Err, Option, MatchOption, Result}
 use Rattle.encoding.specs.declared.fault.WireFault.{WireFault}
 use Rattle.encoding.specs.Entries.{entries}
 use Rattle.encoding.specs.Fields.{buffer, client_id_in}
@@ -29,6 +30,17 @@ due n s = listed (entries presence_entry n s)
 abbrev pub alone : {X : Type 0} → Reading X → Result X WireFault
 alone (Ok p) = Ok p.0
 alone (Err f) = Err f
+
+-- the only one of a list
+abbrev pub only : {X : Type 0} → List X → Option X
+only [] = None
+only (x ∷ []) = Some x
+only (x ∷ y ∷ ys) = None
+
+-- the entry of an update that has no other; none where there is no such update
+abbrev pub single : Reading (List Entry) → Option Entry
+single (Ok p) = only p.0
+single (Err f) = None
 
 -- the first entry, and then the others; or none where there is none
 abbrev pub Walks : List Entry → Option Entry → List Entry → Type 0

@@ -4,12 +4,12 @@ ghost use Rattle.std.specs.Prelude.{◌≡◌, ◌≤◌, IfOk, length, Ok, is_o
 ghost use Rattle.std.specs.Option.{option_copied};
 ghost use Rattle.encoding.specs.Entries.{entries};
 ghost use Rattle.encoding.specs.Reading.{read_as};
-ghost use Rattle.message.specs.Arrived.{passed_entry, due, alone, Walks};
+ghost use Rattle.message.specs.Arrived.{passed_entry, due, alone, single, Walks};
 ghost use Rattle.message.specs.Presence.{entry_is, presence_entry, presence};
 ghost use Rattle.message.specs.Writing.{Readable};
 
 use crate::presence::{PresenceEntry, state_of};
-use encoding::entries::skip_entries;
+use encoding::entries::{Decode, skip_entries};
 use encoding::fault::WireFault;
 use encoding::read::{read_buf, read_client_id, read_count};
 use encoding::var_uint::read_var;
@@ -33,6 +33,20 @@ impl<'a> Model for ArrivedEntry<'a> {
 }
 
 impl<'a> ArrivedEntry<'a> {
+    #[inline(always)]
+    #[tactic(auto, unfolding(crate::specs::Presence::presence), using(crate::proofs::Arrivals::not_single))]
+    // The entry of an update that has no other, which most have not; none where the bytes hold no such update.
+    pub fn single(s: &'a [u8]) -> Option<ArrivedEntry<'a>>
+        ensures { result ≡ single (presence s.now) }
+    {
+        let (count, bytes) = read_count::<u64>(s).ok()?;
+        if count != 1 {
+            return None;
+        }
+        let (entry, _rest) = PresenceEntry::read(bytes).ok()?;
+        Some(ArrivedEntry { entry })
+    }
+
     // Whose entry it is.
     pub fn client(&self) -> u64
         ensures { result ≡ self.now.client }

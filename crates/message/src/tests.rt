@@ -1,4 +1,5 @@
 // Examples of messages, whole, cut short and refused, and of messages written.
+use crate::arrived::ArrivedEntry;
 use crate::message::Message;
 use crate::messages::*;
 use crate::presence::PresenceEntry;
@@ -264,4 +265,21 @@ fn two_read_back_as_others(rt: HostRuntime) -> Result<(), Fail> {
     let (e, _) = PresenceEntry::read(b"\x07\x03\x04null")?;
     assert!(rt; e.state.is_none());
     Ok(())
+}
+
+// Of an update with one entry that entry, and of any other bytes none.
+#[test]
+fn a_single_entry_is_read(rt: HostRuntime) {
+    let table: [(&[u8], Option<(u64, u32)>); 6] = [
+        (b"\x01\x07\x03\x01a", Some((7, 3))),
+        (b"\x01\x07\x03\x01a\xff", Some((7, 3))),
+        (b"\x00", None),
+        (b"\x02\x07\x03\x01a\x08\x01\x01b", None),
+        (b"\x01\x07\x03\x02a", None),
+        (b"", None),
+    ];
+    for (update, entry) in table {
+        let single = ArrivedEntry::single(update).map(|e| (e.client(), e.clock()));
+        assert_eq!(rt; single, entry);
+    }
 }
