@@ -109,6 +109,19 @@ fn awareness(clients: u64, length: usize) -> Work {
     Work { name: format!("awareness, clients: {clients}, text of {length}"), first, asked, call: Call::Handle }
 }
 
+/// The same from clients in no order: as no search can foresee which comes next.
+fn at_random(clients: u64, length: usize) -> Work {
+    let first = (0..clients).map(|client| bytes::awareness(client, 1, length)).collect();
+    let mut state = 1u64;
+    let asked = (0..2000u64)
+        .map(|i| {
+            state = state.wrapping_mul(6364136223846793005).wrapping_add(1442695040888963407);
+            bytes::awareness((state >> 33) % clients, 2 + i, length)
+        })
+        .collect();
+    Work { name: format!("awareness, clients: {clients} in no order, text of {length}"), first, asked, call: Call::Handle }
+}
+
 /// Updates of the board, from so many clients in turn; each raises a count.
 fn board(clients: u64) -> Work {
     let first = (0..clients).map(|client| bytes::board(client, 1)).collect();
@@ -157,6 +170,8 @@ fn growth(work: impl Fn(u64) -> Work) -> f64 {
 }
 
 fn main() {
+    // not counted: a processor that was idle is slow at first
+    compare(&awareness(1, 16));
     println!("| workload | port, a second | Rust, a second | ratio | allocations, port | allocations, Rust |");
     println!("|---|---|---|---|---|---|");
     let growths = [
@@ -165,6 +180,8 @@ fn main() {
         ("awareness, text of 256", growth(|clients| awareness(clients, 256))),
         ("board update", growth(board)),
     ];
+    line(&at_random(8, 64));
+    line(&at_random(63, 64));
     line(&query(63));
     line(&apply(64));
     let read = stale();

@@ -149,6 +149,16 @@ impl Awareness {
         self.table.put(come).unwrap();
     }
 
+    // The place of a client, or else the place where it would go: it is looked for where it is expected, and then by a search.
+    fn find_near(&self, near: usize, client: u64) -> Result<usize, usize>
+        ensures { MatchResult result (Found client_of client self.now.rows) (Missing client_of client self.now.rows) }
+    {
+        match self.records().get(near) {
+            Some(held) if held.client() == client => Ok(near),
+            _ => self.table.find(client),
+        }
+    }
+
     // What an entry does whose client was searched for.
     fn change_at(&self, place: Result<usize, usize>, e: &ArrivedEntry<'_>) -> Change
         requires { MatchResult place (Found client_of e.now.client self.now.rows) (Missing client_of e.now.client self.now.rows) }
@@ -194,18 +204,6 @@ impl Awareness {
         }
     }
 
-    // Searches for the entry's client, and takes it so.
-    fn receive(&mut self, e: &Arrival<'_>) -> Change
-        requires room { length (received self.old.own e.now.time self.old.rows e.now.entry.now) ≤ 64 }
-        requires rises { rises self.old.own (held_of e.now.entry.now.client self.old.rows) e.now.entry.now ≡ true }
-        ensures change { result ≡ change_by self.old.own (held_of e.now.entry.now.client self.old.rows) e.now.entry.now }
-        ensures rows { self.new.rows ≡ received self.old.own e.now.time self.old.rows e.now.entry.now }
-        ensures own { self.new.own ≡ self.old.own }
-    {
-        let place = self.table.find(e.entry.client());
-        self.receive_at(place, e)
-    }
-
     // The same in two steps: what an entry does, and then the record that comes in with it.
     fn receive_anew(&mut self, e: &ArrivedEntry<'_>, now: u64) -> Change
         requires room { length (received self.old.own now self.old.rows e.now) ≤ 64 }
@@ -229,9 +227,15 @@ impl Awareness {
             return Ok(());
         }
         let mut new = Table::<u64, MAX_ENTRIES>::new();
+        // where the next client is expected, as entries mostly ascend
+        let mut near = 0;
         for e in update.iter() {
-            if self.table.get(e.client()).is_none() {
-                new.put(e.client())?;
+            match self.find_near(near, e.client()) {
+                Ok(at) => near = at.saturating_add(1),
+                Err(at) => {
+                    near = at;
+                    new.put(e.client())?;
+                }
             }
         }
         if self.table.len() + new.len() <= MAX_ENTRIES {
@@ -302,12 +306,17 @@ impl Awareness {
     {
         // a look at a field brings in that the records ascend
         let _held = &self.own;
+        // where the next client is expected, as entries mostly ascend
+        let mut near: usize = 0;
         for e in update.iter() {
-            let change = self.receive(&Arrival {
+            let place = self.find_near(near, e.client());
+            near = place.unwrap_or_else(|at| at).saturating_add(1);
+            let e = Arrival {
                 entry: &e,
                 time: now,
-            });
-            seen.note(e.client(), change);
+            };
+            let change = self.receive_at(place, &e);
+            seen.note(e.entry.client(), change);
         }
     }
 }

@@ -228,12 +228,19 @@ fn a_65th_client_is_refused(rt: HostRuntime) -> Result<(), Fail> {
     let both = Ask::Apply(b"\x02\x01\xff\xff\xff\xff\x0f\x04null\x41\x01\x01a");
     let known = Ask::Apply(b"\x02\x01\xff\xff\xff\xff\x0f\x04null\x40\x02\x01a");
     let later = Ask::Apply(b"\x01\x40\x02\x01b");
+    let again = many();
     let own = (1, Held::Live(u32::MAX, 100));
     let steps = [
         Step(one, Err(TOO_MANY_CLIENTS), own, 102),
         Step(both, Err(TOO_MANY_CLIENTS), own, 102),
         Step(known, Err(CLOCK_AT_END), own, 102),
         Step(later, Ok([0, 1, 1, 0]), (64, Held::Live(2, 102)), 103),
+        Step(
+            Ask::Apply(&again),
+            Ok([0; 4]),
+            (64, Held::Live(2, 102)),
+            104,
+        ),
     ];
     let mut site = full(OWN_AT_END)?;
     check_steps(&rt, &mut site, &steps)?;

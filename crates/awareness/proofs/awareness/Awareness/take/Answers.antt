@@ -11,14 +11,14 @@ loop-e-init g c =
     let up = subst (λ a. ascends client_of a.rows ≡ true) c.self.view_is c.self.invariant.1 in
     all_left g.O.Observer.after c.args.self.now.own c.args.now c.args.self.now.rows c.args.update.now c.into_iter-e-iterator.result c.args.seen.now (c.into_iter-e-iterator.ensures.into_iter_gives ∙ c.iter-e-items.ensures) up c.requires
 
-pub receive-change-requires-clause-room : goal.receive-change-requires-clause-room
-receive-change-requires-clause-room g c = (first_passes g.O.Observer.after _ _ _ _ _ _ _ _ c.in-Some.e c.next.new.self _ c.loop-e.invariant c.in-Some.ensures.steps).room
+pub receive_at-change-requires-clause-room : goal.receive_at-change-requires-clause-room
+receive_at-change-requires-clause-room g c = (first_passes g.O.Observer.after _ _ _ _ _ _ _ _ c.in-Some.e c.next.new.self _ c.loop-e.invariant c.in-Some.ensures.steps).room
 
-pub receive-change-requires-clause-rises : goal.receive-change-requires-clause-rises
-receive-change-requires-clause-rises g c = (first_passes g.O.Observer.after _ _ _ _ _ _ _ _ c.in-Some.e c.next.new.self _ c.loop-e.invariant c.in-Some.ensures.steps).rises
+pub receive_at-change-requires-clause-rises : goal.receive_at-change-requires-clause-rises
+receive_at-change-requires-clause-rises g c = (first_passes g.O.Observer.after _ _ _ _ _ _ _ _ c.in-Some.e c.next.new.self _ c.loop-e.invariant c.in-Some.ensures.steps).rises
 
 pub loop-e-preserved : goal.loop-e-preserved
-loop-e-preserved g c = others_left g.O.Observer.after _ _ _ _ _ _ _ _ c.in-Some.e c.next.new.self _ _ _ _ _ c.loop-e.invariant c.in-Some.ensures.steps c.receive-change.ensures.own c.receive-change.ensures.rows c.receive-change.ensures.change (c.note.ensures ∙ ap (λ n. g.O.Observer.after c.loop-e.seen n c.receive-change.result) c.client.ensures)
+loop-e-preserved g c = others_left g.O.Observer.after _ _ _ _ _ _ _ _ c.in-Some.e c.next.new.self _ _ _ _ _ c.loop-e.invariant c.in-Some.ensures.steps c.receive_at-change.ensures.own c.receive_at-change.ensures.rows c.receive_at-change.ensures.change (c.note.ensures ∙ ap (λ n. g.O.Observer.after c.loop-e.seen n c.receive_at-change.result) c.client-in-loop-e.ensures)
 
 pub returns-clause-rows : goal.returns-clause-rows
 returns-clause-rows g c = let l = c.loop-e.invariant in sym (l.rest ∙ ap (taken c.args.self.now.own c.args.now c.loop-e.self.rows) c.in-None.ensures.steps.0)
