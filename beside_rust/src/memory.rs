@@ -1,4 +1,4 @@
-//! The memory that the oracle has.
+//! The memory that this crate's programs have; a program that counts its own uses of memory, as the benchmarks do, brings another.
 use std::alloc::{GlobalAlloc, Layout, System};
 
 /// Grants no piece of memory above 64 MiB, so that a count that asks for more fails here as it would on any small machine.

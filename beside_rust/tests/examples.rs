@@ -1,6 +1,10 @@
 //! What is known of the Rust beforehand: examples whose answers follow from the public description of the protocol.
 use beside_rust::call::Call;
+use beside_rust::memory::Bounded;
 use beside_rust::oracle::Oracle;
+
+#[global_allocator]
+static MEMORY: Bounded = Bounded;
 
 /// Asks the calls in turn, each with its answer and mark.
 fn asks(pairs: &[(&str, &str)]) {

@@ -6,7 +6,7 @@
 --   Carries       the law goes on with a call
 --   lent, enough_in, applied_answer, settled, lists_over   of an apply, the caller's lists, whether each has its places, what it tells, does and leaves in them
 --   Handling, Applied, Set, Removed, Cleaned, Shown, Listed, Asked, Started   what each call does
-use Rattle.std.specs.Prelude.{◌≡◌, ℕ, ◌≤◌, Bool, true, false, ◌||◌, ◌&&◌, cond, List, length, take, map, filter, Ok, Err, Option, Result, nat_le, is_ok}
+use Rattle.std.specs.Prelude.{◌≡◌, ℕ, ◌≤◌, Bool, true, false, ◌||◌, ◌&&◌, cond, List, length, take, map, filter, Ok, Err, Option, Result, nat_le}
 use Rattle.std.specs.Result.{result_and}
 use Rattle.encoding.specs.Fields.{client_id}
 use Rattle.message.specs.Messages.{messages}

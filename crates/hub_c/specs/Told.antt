@@ -4,7 +4,7 @@
 --   handled_told, changes_told, told_or   what stands in the caller's place for the answer
 --   shown_told, text_told    what is told of what is held of a client, and where its text stands
 --   unmade        the number of a call where no hub was made
-use Rattle.std.specs.Prelude.{◌≡◌, ℕ, Bool, true, false, ◌<◌, cond, length, List, Some, None, Option, Ok, Err, Result, nat_le}
+use Rattle.std.specs.Prelude.{◌≡◌, ℕ, true, false, cond, length, List, Some, None, Option, Ok, Err, Result, nat_le}
 use Rattle.awareness.specs.declared.summary.AwarenessUpdateSummary.{AwarenessUpdateSummary}
 use Rattle.awareness.specs.Record.{Record}
 use Rattle.calls.specs.declared.answer.Handled.{Handled}

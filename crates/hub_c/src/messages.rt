@@ -3,6 +3,7 @@ ghost use Rattle.std.specs.Prelude.{◌≡◌, true, false, Ok, None};
 ghost use Rattle.boards.specs.CountBoard.{counts};
 ghost use Rattle.hub.specs.Steps.{fresh};
 ghost use Rattle.hub_c.specs.Told.{Answered, handled_told, told_or, unmade};
+ghost use Rattle.hub_c.specs.Places.{hub_size};
 ghost use Rattle.hub_c.specs.Pins.{means, made_number, Sound, Handling, Asked, Started};
 
 use crate::presence_hub::PresenceHub;
@@ -15,7 +16,9 @@ const SIZE: usize = size_of::<ProductHub>();
 
 // How many bytes a hub takes.
 #[unsafe(no_mangle)]
-pub extern "C" fn presence_hub_size() -> usize {
+pub extern "C" fn presence_hub_size() -> usize
+    ensures { result ≡ hub_size }
+{
     SIZE
 }
 

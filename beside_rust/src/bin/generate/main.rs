@@ -8,10 +8,14 @@ mod scripts;
 mod spell;
 
 use beside_rust::call::{Call, Hex};
+use beside_rust::memory::Bounded;
 use beside_rust::standins::board::Kind;
 use random::Random;
 use std::io::{self, BufWriter, Write};
 use std::process::ExitCode;
+
+#[global_allocator]
+static MEMORY: Bounded = Bounded;
 
 const USAGE: &str = "usage: generate short LEN | messages SEED N | damaged SEED N | pairs | limits | exhaustive | scripts SEED N LEN | long SEED N LEN | sample SEED";
 

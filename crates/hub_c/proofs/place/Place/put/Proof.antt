@@ -5,18 +5,18 @@ use Rattle.std.proofs.raw_atomic.Walks.{proved_at}
 use Rattle.std.proofs.VecSteps.Shapes.{after}
 use seplogic.Ra.Ura.{Ura}
 use base.Fraction.{full_share}
-use base.Logic.{SProp, ent, sep, emp, id⊢}
-use base.Fml.{Lft, GName, Share, Fml, ftrue, flft, froom, fsep}
+use base.Logic.{SProp, ent, emp, id⊢}
+use base.Fml.{Lft, Share, ftrue, flft}
 use lib.Dec.{T}
-use mir.Syntax.{Ty, named}
-use mir.Val.{Val, vptr, vunit, has_ty, WT}
+use mir.Syntax.{named}
+use mir.Val.{Val, vunit, has_ty, WT}
 use contract.Monad.{Fun, fact}
 use contract.Running.{tables}
 use prog.Memory.{Memory}
 use prog.Routine.{Routine}
 use prog.Wp.{Calls, Loops, WpFn}
 use types.Logic.{Logic, sem}
-use types.Kit.{‵, raw, ◌⊛◌, some, later, at_ret, ◌$◌, ◌∵◌, !, qed, by, done, move, keep, use1, use2, split, join, pick, fsplit, fsplit3, fjoin, fpack, feq_i, await, rewrite, suffices, frame, group, updating, now}
+use types.Kit.{‵, raw, ◌⊛◌, at_ret, ◌$◌, ◌∵◌, !, qed, done, move, keep, use1, use2, split, join, fsplit, fsplit3, fjoin, feq_i, rewrite, suffices, frame, group, updating, now}
 use types.Part.{whole, sub, look_in}
 use types.Run.{enter, of_opd, unit_lit, load, stop, fld, init, first, blocks, exec, assigns_last, returns}
 use types.ByLocal.{alloc_all, pass_all, free_all, look_at, get, through, sets, env}
@@ -26,12 +26,11 @@ use denote.Param.Mute.{Mute, Mute-flat}
 use denote.Laws.{shows, Typed}
 use denote.Memory.{cell_at, part_at}
 use denote.RawPtr.{Ptr, block_ptr, lies_at, room_at, in_a_block}
-use denote.Ref.{MutBor, MutRef, mut_vals, mut_Tells}
+use denote.Ref.{MutBor, MutRef, mut_vals}
 use denote.Signature.{plain}
-use denote.Steps.{nothing, opens, closes, peeks, heard, only}
+use denote.Steps.{nothing, opens, closes, peeks, heard}
 use denote.Struct.Owning.{shape}
 use denote.Struct.Struct.{Struct}
-use denote.Triple.Entry.{on_entry}
 use denote.Triple.Walked.{Stays, walk_of, says, stay_ref, stay_dropped, Goes-ref, Goes, ends_at}
 use denote.Param.{layout}
 use denote.Struct.Loose.{Looses, loose_lawful}
