@@ -33,14 +33,14 @@ fn a_client_comes_and_goes() {
 fn the_own_client_stays() {
     asks(&[
         ("hub 1 count default step 1", "done | inside"),
-        ("apply 0101050161", "added 1 updated - changed - removed - | inside"),
+        ("apply 0101050131", "added 1 updated - changed - removed - | inside"),
         ("apply 010105046e756c6c", "added - updated +1 changed - removed - | lists a raised own record"),
         ("apply 010104046e756c6c", "added - updated - changed - removed - | inside"),
-        ("show 1", "record 1:6@2:61 | inside"),
+        ("show 1", "record 1:6@2:31 | inside"),
         ("clean", "done | inside"),
         ("apply 01010862", "refused 2 layer wire message 0 byte 0 reply - | inside"),
-        ("apply 0101080162", "added - updated 1 changed +1 removed - | lists a text over null"),
-        ("show 1", "record 1:8@4:62 | inside"),
+        ("apply 0101080132", "added - updated 1 changed +1 removed - | lists a text over null"),
+        ("show 1", "record 1:8@4:32 | inside"),
     ]);
 }
 

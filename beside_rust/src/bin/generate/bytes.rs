@@ -1,5 +1,6 @@
 //! Bytes of messages, vectors and updates, around the limits of every field.
 use crate::random::Random;
+use crate::texts::{self, Texts};
 use beside_rust::encoding::write::Write;
 
 /// How far a generator goes: everything that bytes can be, or what a hub's script is mostly made of.
@@ -15,12 +16,14 @@ pub struct Scope {
     pub width: Width,
     /// the lowest clock where it is narrow
     pub clock: u64,
+    /// what presence shows
+    pub texts: Texts,
     /// whether there are many entries now and then
     pub crowds: bool,
 }
 
-pub const WIDE: Scope = Scope { width: Width::Wide, clock: 0, crowds: true };
-pub const NARROW: Scope = Scope { width: Width::Narrow, clock: 0, crowds: true };
+pub const WIDE: Scope = Scope { width: Width::Wide, clock: 0, texts: Texts::Mixed, crowds: true };
+pub const NARROW: Scope = Scope { width: Width::Narrow, clock: 0, texts: Texts::Json, crowds: true };
 
 const NARROW_CLIENTS: [u64; 5] = [1, 2, 5, 7, 9];
 const CLIENTS: [u64; 13] = [0, 1, 2, 5, 7, 9, 63, 64, 127, 128, 300, 1 << 40, (1 << 53) - 1];
@@ -36,22 +39,6 @@ const NOT_TEXTS: [&[u8]; 9] = [
     b"\xe0\x9f\xbf",
     b"\xf0\x8f\xbf\xbf",
     b"\xc1\xbf",
-];
-const TEXTS: [&[u8]; 14] = [
-    b"",
-    b"a",
-    b"b",
-    b"\"in\"",
-    b"null",
-    b"nul",
-    b"nulll",
-    b"Null",
-    b"{\"file\":1}",
-    b"\xc2\x80",
-    b"\xed\x9f\xbf",
-    b"\xee\x80\x80",
-    b"\xf0\x90\x80\x80",
-    b"\xf4\x8f\xbf\xbf",
 ];
 
 /// A number, mostly in its shortest spelling, now and then in a longer one or in one that never ends.
@@ -86,13 +73,13 @@ pub fn clock(r: &mut Random, scope: Scope) -> u64 {
 /// A text, now and then one that is none or is too long.
 pub fn text(r: &mut Random, scope: Scope) -> Vec<u8> {
     match r.below(if scope.width == Width::Wide { 60 } else { 1000 }) {
-        0 => vec![b'a'; 257],
-        1 => vec![b'a'; 256],
-        2 => [&[b'a'; 254][..], b"\xc3\xa9"].concat(),
-        3 => [&[b'a'; 256][..], b"\xff"].concat(),
+        0 => texts::quoted(257, b""),
+        1 => texts::quoted(256, b""),
+        2 => texts::quoted(256, "é".as_bytes()),
+        3 => texts::quoted(257, b"\xff"),
         4 | 5 => r.pick(&NOT_TEXTS).to_vec(),
         _ if scope.width == Width::Narrow && r.once_in(5) => b"null".to_vec(),
-        _ => r.pick(&TEXTS).to_vec(),
+        _ => scope.texts.any(r),
     }
 }
 

@@ -2,6 +2,7 @@
 //! since the Rust takes it; so each such call has a script of its own.
 use crate::rows::{apply, handle, hub, set, KINDS};
 use crate::spell;
+use crate::texts::{self, MAX_DEPTH, NO_JSON};
 use beside_rust::call::{Call, ClockOf, Fields, Hex, Pace, Policy, Presence, Shown};
 use beside_rust::standins::board::Kind;
 
@@ -29,9 +30,9 @@ fn crowd(first: u64, len: u64, text: &[u8]) -> Vec<Vec<u8>> {
 
 /// So many clients held, in each of the ways that they can come; the own one is among them or not.
 fn filled(first: u64, len: u64) -> [Vec<Call>; 3] {
-    let one_by_one = |client| handle(spell::awareness(&spell::counted(&crowd(client, 1, b"a"))));
+    let one_by_one = |client| handle(spell::awareness(&spell::counted(&crowd(client, 1, b"1"))));
     [
-        vec![apply(spell::counted(&crowd(first, len, b"a")))],
+        vec![apply(spell::counted(&crowd(first, len, b"1")))],
         (first..first + len).map(one_by_one).collect(),
         (first..first + len).map(Call::Remove).collect(),
     ]
@@ -39,14 +40,14 @@ fn filled(first: u64, len: u64) -> [Vec<Call>; 3] {
 
 /// All calls that may bring another client, or two.
 fn newcomers() -> Vec<Call> {
-    let new = spell::awareness(&spell::counted(&crowd(900, 1, b"n")));
-    let held = spell::awareness(&spell::counted(&[spell::shown(10, 9, b"h")]));
+    let new = spell::awareness(&spell::counted(&crowd(900, 1, b"2")));
+    let held = spell::awareness(&spell::counted(&[spell::shown(10, 9, b"3")]));
     let mut calls =
-        vec![set(b"own"), Call::Clean, Call::Remove(900), Call::Remove(10), handle([&held[..], &new, &held].concat())];
+        vec![set(b"\"own\""), Call::Clean, Call::Remove(900), Call::Remove(10), handle([&held[..], &new, &held].concat())];
     calls.extend(presence(900, 1, b"null"));
     calls.extend(presence(10, 2, b"null"));
-    calls.extend([handle([&[3][..], &new, &[3]].concat()), apply(spell::counted(&crowd(900, 2, b"n")))]);
-    calls.push(apply(spell::counted(&[spell::shown(10, 2, b"b"), spell::shown(900, 0, b"")])));
+    calls.extend([handle([&[3][..], &new, &[3]].concat()), apply(spell::counted(&crowd(900, 2, b"2")))]);
+    calls.push(apply(spell::counted(&[spell::shown(10, 2, b"4"), spell::shown(900, 0, b"5")])));
     calls
 }
 
@@ -67,12 +68,12 @@ fn clocks() -> Vec<Call> {
     let mut calls = Vec::new();
     for client in [1, 7] {
         for clock in [LAST_CLOCK - 2, LAST_CLOCK - 1, LAST_CLOCK] {
-            for text in [&b"a"[..], b"null"] {
+            for text in [&b"1"[..], b"null"] {
                 let update = spell::counted(&[spell::shown(client, clock, text)]);
                 let first = [hub(Kind::Count, Policy::Default, Pace::Set), apply(update)];
-                let mut last = vec![set(b"b"), Call::Clean, Call::Remove(client), Call::List(vec![client])];
+                let mut last = vec![set(b"2"), Call::Clean, Call::Remove(client), Call::List(vec![client])];
                 for clock in [LAST_CLOCK - 2, LAST_CLOCK - 1, LAST_CLOCK, LAST_CLOCK + 1] {
-                    last.extend(presence(client, clock, b"b"));
+                    last.extend(presence(client, clock, b"2"));
                     last.extend(presence(client, clock, b"null"));
                 }
                 calls.extend(each(&first, last));
@@ -88,7 +89,7 @@ fn ids() -> Vec<Call> {
     for id in IDS {
         for kind in KINDS {
             let mut last = vec![Call::Remove(id), Call::Show(id), Call::List(vec![1, id])];
-            last.extend(presence(id, 1, b"a"));
+            last.extend(presence(id, 1, b"1"));
             last.push(handle(spell::step1(&spell::counted(&[spell::at(5, 0), spell::at(id, 1)]))));
             last.push(handle(spell::update(&spell::counted(&[spell::part(kind, id, 1)]))));
             last.push(Call::Write(Fields::Step1(vec![ClockOf { client: id, clock: 1 }])));
@@ -96,25 +97,36 @@ fn ids() -> Vec<Call> {
                 at: ClockOf { client: id, clock: 1 },
                 shown: Shown::Null,
             }])));
-            calls.extend(each(&[hub(kind, Policy::Default, Pace::Set), set(b"a")], last));
+            calls.extend(each(&[hub(kind, Policy::Default, Pace::Set), set(b"1")], last));
             let own = Call::Hub { own: id, kind, policy: Policy::Default, pace: Pace::Step, reading: 5 };
-            calls.extend(each(&[own], [set(b"a"), Call::Clean, Call::Remove(id), Call::Show(id), Call::Step1]));
+            calls.extend(each(&[own], [set(b"1"), Call::Clean, Call::Remove(id), Call::Show(id), Call::Step1]));
         }
     }
     calls
 }
 
-/// Texts of a length: of one letter, with a letter of two bytes at the end, cut within one, and with a byte that no text has.
+/// Texts of a length: a number, and in quotes; with a letter of two bytes at the end, cut within one, and with a byte that no text has.
 fn texts_of(len: usize) -> Vec<Vec<u8>> {
-    let letters = vec![b'a'; len];
-    let ending = |end: &[u8]| [&letters[..len.saturating_sub(end.len())], end].concat();
-    vec![letters.clone(), ending("é".as_bytes()), ending(b"\xc3"), ending(b"\xff")]
+    let ends = [&b""[..], "é".as_bytes(), b"\xc3", b"\xff"];
+    let quoted = ends.into_iter().map(|end| texts::quoted(len, end));
+    quoted.chain([vec![b'1'; len]]).collect()
+}
+
+/// Texts as deep as they may be, and deeper.
+fn deep() -> impl Iterator<Item = Vec<u8>> {
+    (MAX_DEPTH - 1..=MAX_DEPTH + 1).map(texts::nested)
+}
+
+/// What is no JSON: short, and below, at and above the limit of a text.
+fn no_json() -> impl Iterator<Item = Vec<u8>> {
+    let long = [255, 256, 257].map(|len| vec![b'a'; len]);
+    NO_JSON.into_iter().map(<[u8]>::to_vec).chain(long)
 }
 
 /// A text in every place that has one.
 fn texts() -> Vec<Call> {
     let mut calls = Vec::new();
-    for text in LENGTHS.into_iter().flat_map(texts_of) {
+    for text in LENGTHS.into_iter().flat_map(texts_of).chain(deep()).chain(no_json()) {
         let mut last = vec![set(&text), handle(spell::denied(&text)), handle(spell::custom(spell::ACCEPTED_TAG, &text))];
         last.extend(presence(7, 1, &text));
         last.extend(presence(1, 1, &text));
@@ -134,14 +146,14 @@ fn entries() -> Vec<Call> {
     for len in [0u64, 1, 15, 16, 17, 63, 64, 65] {
         for count in [len, len + 1, len.saturating_sub(1), LAST_CLOCK, LAST_CLOCK + 1, u64::MAX] {
             let vector: Vec<_> = (1..=len).map(|client| spell::at(client, 1)).collect();
-            let update = spell::declared(count, &crowd(1, len, b"a"));
+            let update = spell::declared(count, &crowd(1, len, b"1"));
             let mut last = vec![apply(update.clone()), handle(spell::awareness(&update))];
             last.push(handle(spell::step1(&spell::declared(count, &vector))));
             last.push(handle(spell::update(&spell::declared(count, &vector))));
             last.push(handle(spell::step2(&update)));
             calls.extend(KINDS.into_iter().flat_map(|kind| each(&[hub(kind, Policy::Default, Pace::Step)], last.clone())));
         }
-        let held = [hub(Kind::Count, Policy::Default, Pace::Step), apply(spell::counted(&crowd(1, 64, b"a")))];
+        let held = [hub(Kind::Count, Policy::Default, Pace::Step), apply(spell::counted(&crowd(1, 64, b"1")))];
         let at = |client| ClockOf { client, clock: 1 };
         let vector = (1..=len).map(at).collect();
         let update = (1..=len).map(|client| Presence { at: at(client), shown: Shown::Null }).collect();
@@ -234,7 +246,7 @@ fn lengths() -> Vec<Call> {
 fn largest() -> Vec<Call> {
     let mut calls = Vec::new();
     for len in [255, 256] {
-        let full = spell::counted(&crowd(END_OF_IDS - 64, 64, &vec![b'a'; len]));
+        let full = spell::counted(&crowd(END_OF_IDS - 64, 64, &texts::quoted(len, b"")));
         let first = [hub(Kind::Count, Policy::Default, Pace::Step), handle(spell::awareness(&full))];
         let all = (END_OF_IDS - 64..END_OF_IDS).collect();
         calls.extend(each(&first, [handle([3, 3, 3, 3]), Call::List(all)]));
@@ -249,8 +261,8 @@ fn readings() -> Vec<Call> {
         for reading in [0, u64::MAX - 1, u64::MAX] {
             calls.push(Call::Hub { own: 1, kind: Kind::Count, policy: Policy::Default, pace, reading });
             for client in 1..5 {
-                calls.extend(presence(client, 1, b"a"));
-                calls.extend([Call::Remove(client + 10), set(b"a"), Call::Show(client), Call::Records]);
+                calls.extend(presence(client, 1, b"1"));
+                calls.extend([Call::Remove(client + 10), set(b"1"), Call::Show(client), Call::Records]);
             }
         }
     }

@@ -6,6 +6,7 @@ mod reading;
 mod rows;
 mod scripts;
 mod spell;
+mod texts;
 
 use beside_rust::call::{Call, Hex};
 use beside_rust::memory::Bounded;

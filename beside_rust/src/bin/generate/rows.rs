@@ -43,7 +43,7 @@ fn two_bytes() -> impl Iterator<Item = Vec<u8>> {
 
 /// What a hub is first given: a text of its own, a client that is live and one that is gone, and something in its document.
 fn given(kind: Kind) -> Vec<u8> {
-    let presence = [spell::shown(1, 1, b"a"), spell::shown(2, 1, b"null"), spell::shown(7, 1, b"b")];
+    let presence = [spell::shown(1, 1, b"1"), spell::shown(2, 1, b"null"), spell::shown(7, 1, b"2")];
     [spell::awareness(&spell::counted(&presence)), spell::update(&spell::counted(&[spell::part(kind, 5, 2)]))].concat()
 }
 
@@ -75,9 +75,9 @@ pub fn two() -> impl Iterator<Item = Call> {
 
 /// What presence can meet of the own client and another: low clocks, texts and nulls.
 fn presence_calls() -> Vec<Call> {
-    let mut calls = vec![set(b"a"), set(b""), Call::Clean, Call::Remove(7)];
+    let mut calls = vec![set(b"1"), set(b"\"\""), Call::Clean, Call::Remove(7)];
     for client in [1, 7] {
-        for (clock, text) in [(1, &b"a"[..]), (2, b"a"), (2, b"b"), (1, b"null"), (2, b"null")] {
+        for (clock, text) in [(1, &b"1"[..]), (2, b"1"), (2, b"2"), (1, b"null"), (2, b"null")] {
             calls.push(apply(spell::counted(&[spell::shown(client, clock, text)])));
         }
     }
@@ -125,14 +125,14 @@ pub fn all(len: u32) -> impl Iterator<Item = Call> {
 /// Good bytes of every message, and of several in a row.
 fn packets(kind: Kind) -> Vec<Vec<u8>> {
     let presence = |client: u64, clock: u64, text: &[u8]| spell::awareness(&spell::counted(&[spell::shown(client, clock, text)]));
-    let two = spell::counted(&[spell::shown(1, 2, b"null"), spell::shown(300, 1, "é".as_bytes())]);
+    let two = spell::counted(&[spell::shown(1, 2, b"null"), spell::shown(300, 1, "\"é\"".as_bytes())]);
     let parts = spell::counted(&[spell::part(kind, 5, 3), spell::part(kind, 300, 1)]);
     vec![
         spell::step1(&spell::counted(&[])),
         spell::step1(&spell::counted(&[spell::at(5, 1), spell::at(300, 65536)])),
         spell::step2(&parts),
         spell::update(&spell::counted(&[spell::part(kind, 5, 1)])),
-        presence(7, 2, b"c"),
+        presence(7, 2, b"3"),
         presence(7, 1, b"null"),
         spell::awareness(&two),
         spell::GRANTED.to_vec(),
@@ -140,7 +140,7 @@ fn packets(kind: Kind) -> Vec<Vec<u8>> {
         spell::QUERY.to_vec(),
         spell::custom(spell::ACCEPTED_TAG, b"ab"),
         spell::custom(200, b""),
-        [spell::QUERY, &spell::update(&parts), &presence(7, 3, b"d"), spell::QUERY].concat(),
+        [spell::QUERY, &spell::update(&parts), &presence(7, 3, b"4"), spell::QUERY].concat(),
     ]
 }
 
@@ -166,7 +166,7 @@ pub fn damaged() -> impl Iterator<Item = Call> {
             }
         }
         let entries =
-            spell::counted(&[spell::shown(1, 2, b"null"), spell::shown(7, 2, "é".as_bytes()), spell::shown(300, 1, b"")]);
+            spell::counted(&[spell::shown(1, 2, b"null"), spell::shown(7, 2, "\"é\"".as_bytes()), spell::shown(300, 1, b"5")]);
         let updates: Vec<_> = damages(&entries).map(apply).collect();
         all.into_iter().map(handle).chain(updates).flat_map(move |call| on_given(kind, Policy::Ranges, [call]))
     })

@@ -4,6 +4,7 @@ use crate::random::Random;
 use crate::reading::fields;
 use crate::rows::KINDS;
 use crate::spell;
+use crate::texts::Texts;
 use beside_rust::call::{Call, Hex, Pace, Policy};
 use beside_rust::oracle::Oracle;
 use beside_rust::standins::board::Kind;
@@ -26,15 +27,33 @@ enum Looks {
     Seldom,
 }
 
-/// A few messages, mostly of few clients, now and then many or damaged.
+/// Everything that bytes can be, but for the texts.
+fn wide(scope: Scope) -> Scope {
+    Scope { texts: scope.texts, ..WIDE }
+}
+
+/// A few messages, mostly of few clients, now and then many or damaged; they show texts of the script alone.
 fn packet(r: &mut Random, scope: Scope) -> Vec<u8> {
-    let scope = if r.once_in(60) { WIDE } else { scope };
-    let len = if r.once_in(50) { 30 } else { 1 + r.below(3) };
-    let bytes = bytes::messages(r, scope, len);
-    if r.once_in(10) {
-        bytes::damaged(r, bytes)
-    } else {
-        bytes
+    loop {
+        let made_of = if r.once_in(60) { wide(scope) } else { scope };
+        let len = if r.once_in(50) { 30 } else { 1 + r.below(3) };
+        let mut bytes = bytes::messages(r, made_of, len);
+        if r.once_in(10) {
+            bytes = bytes::damaged(r, bytes);
+        }
+        if scope.texts.admit(&bytes) {
+            return bytes;
+        }
+    }
+}
+
+/// A presence update, which shows texts of the script alone.
+fn update(r: &mut Random, scope: Scope) -> Vec<u8> {
+    loop {
+        let bytes = bytes::presence(r, scope);
+        if scope.texts.admit(&spell::awareness(&bytes)) {
+            return bytes;
+        }
     }
 }
 
@@ -53,8 +72,8 @@ fn many_parts(r: &mut Random, kind: Kind, scope: Scope) -> Vec<u8> {
 fn step(r: &mut Random, kind: Kind, pace: Pace, scope: Scope) -> Call {
     match r.below(40) {
         0..=14 => Call::Handle(Hex(packet(r, scope))),
-        15..=21 => Call::Apply(Hex(bytes::presence(r, scope))),
-        22..=24 => Call::Set(Hex(r.pick(&[&b"a"[..], b"b", b"", b"\xc3\xa9"]).to_vec())),
+        15..=21 => Call::Apply(Hex(update(r, scope))),
+        22..=24 => Call::Set(Hex(scope.texts.of_few(r))),
         25 => Call::Clean,
         26..=27 => Call::Remove(known(r)),
         28 => Call::Step1,
@@ -63,9 +82,10 @@ fn step(r: &mut Random, kind: Kind, pace: Pace, scope: Scope) -> Call {
         32..=33 => Call::List((0..r.below(4)).map(|_| known(r)).collect()),
         34 => Call::Document,
         35 if pace == Pace::Set => Call::Clock(r.below(1000) as u64),
-        36 if r.once_in(8) => Call::Set(Hex(bytes::text(r, WIDE))),
+        36 if r.once_in(8) => Call::Set(Hex(bytes::text(r, wide(scope)))),
         37 => Call::Write(fields(r)),
         38 if scope.crowds && r.once_in(3) => Call::Handle(Hex(many_parts(r, kind, scope))),
+        39 if r.once_in(80) => Call::Set(Hex(b"null".to_vec())),
         _ => Call::Records,
     }
 }
@@ -75,9 +95,10 @@ fn script(r: &mut Random, len: usize, looks: Looks) -> Vec<Call> {
     let hub = fresh(r);
     let Call::Hub { kind, pace, .. } = hub else { return Vec::new() };
     let crowds = r.once_in(2);
+    let texts = Texts::of_script(r);
     let mut calls = vec![hub];
     for i in 0..len {
-        let scope = Scope { clock: i as u64 / 6, crowds, ..NARROW };
+        let scope = Scope { clock: i as u64 / 6, texts, crowds, ..NARROW };
         let call = step(r, kind, pace, scope);
         match call {
             _ if looks == Looks::Seldom && !r.once_in(20) => calls.push(call),
@@ -125,16 +146,16 @@ pub fn crowds() -> impl Iterator<Item = Call> {
 fn crowd(kind: Kind) -> Vec<Call> {
     let mut calls = vec![Call::Hub { own: 1, kind, policy: Policy::Default, pace: Pace::Step, reading: 1 }];
     for client in 1..=64 {
-        calls.push(Call::Handle(Hex(vec![1, 5, 1, client, 1, 1, b'a'])));
+        calls.push(Call::Handle(Hex(vec![1, 5, 1, client, 1, 1, b'1'])));
         calls.push(Call::Handle(Hex(match kind {
             Kind::Count => vec![0, 2, 3, 1, client, 1],
             Kind::Slot => vec![0, 2, 5, 1, client, 1, 1, b'a'],
         })));
     }
     calls.extend([Call::Handle(Hex(vec![3])), Call::Records, Call::Document, Call::Start]);
-    calls.push(Call::Handle(Hex(vec![1, 5, 1, 64, 2, 1, b'b'])));
+    calls.push(Call::Handle(Hex(vec![1, 5, 1, 64, 2, 1, b'2'])));
     calls.push(Call::Handle(Hex(vec![0, 2, 3, 1, 65, 1])));
-    calls.push(Call::Apply(Hex(vec![1, 65, 1, 1, b'a'])));
+    calls.push(Call::Apply(Hex(vec![1, 65, 1, 1, b'1'])));
     calls
 }
 
@@ -143,7 +164,7 @@ pub fn of_two_entries() -> Vec<Call> {
     let mut entries = Vec::new();
     for client in [1, 7] {
         for clock in 1..=3 {
-            for text in [&b"null"[..], b"a", b"b"] {
+            for text in [&b"null"[..], b"1", b"2"] {
                 entries.push([&[1, client, clock, text.len() as u8], text].concat());
             }
         }
@@ -153,7 +174,7 @@ pub fn of_two_entries() -> Vec<Call> {
         for first in &entries {
             for second in &entries {
                 calls.push(Call::Hub { own: 1, kind: Kind::Count, policy: Policy::Default, pace: Pace::Step, reading: 1 });
-                calls.extend(own.then(|| Call::Set(Hex(b"a".to_vec()))));
+                calls.extend(own.then(|| Call::Set(Hex(b"1".to_vec()))));
                 calls.push(Call::Handle(Hex([&[1, first.len() as u8], &first[..]].concat())));
                 calls.push(Call::Apply(Hex(second.clone())));
                 calls.push(Call::Apply(Hex(second.clone())));
