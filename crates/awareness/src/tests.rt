@@ -140,7 +140,7 @@ fn check_steps(rt: &impl Abort, site: &mut Site, steps: &[Step]) -> Result<(), F
 
 #[test]
 fn an_own_text_stands_above_nulls(rt: HostRuntime) -> Result<(), Fail> {
-    let comes = Ask::Apply(b"\x01\x01\x05\x01a");
+    let comes = Ask::Apply(b"\x01\x01\x05\x011");
     let goes = Ask::Apply(b"\x01\x01\x05\x04null");
     let older = Ask::Apply(b"\x01\x01\x04\x04null");
     let last_but_one = Ask::Apply(b"\x01\x01\xfe\xff\xff\xff\x0f\x04null");
@@ -165,9 +165,9 @@ fn an_own_text_stands_above_nulls(rt: HostRuntime) -> Result<(), Fail> {
 fn null_wins_a_tie_and_the_first_text(rt: HostRuntime) -> Result<(), Fail> {
     let comes = Ask::Apply(b"\x01\x07\x03\x04\"in\"");
     let goes = Ask::Apply(b"\x01\x07\x03\x04null");
-    let returns = Ask::Apply(b"\x01\x07\x04\x01a");
-    let another = Ask::Apply(b"\x01\x07\x04\x01b");
-    let later = Ask::Apply(b"\x01\x07\x05\x01a");
+    let returns = Ask::Apply(b"\x01\x07\x04\x011");
+    let another = Ask::Apply(b"\x01\x07\x04\x012");
+    let later = Ask::Apply(b"\x01\x07\x05\x011");
     let null_alone = Ask::Apply(b"\x01\x05\x01\x04null");
     let steps = [
         Step(comes, Ok([1, 0, 0, 0]), (7, Held::Live(3, 100)), 101),
@@ -182,13 +182,13 @@ fn null_wins_a_tie_and_the_first_text(rt: HostRuntime) -> Result<(), Fail> {
     check_steps(&rt, &mut site, &steps)?;
     let mut out = [0; 5];
     site.hub.update(&mut out)?;
-    assert_eq!(rt; out, *b"\x01\x07\x05\x01a");
+    assert_eq!(rt; out, *b"\x01\x07\x05\x011");
     Ok(())
 }
 
 #[test]
 fn lists_ascend_and_a_client_can_be_in_each(rt: HostRuntime) -> Result<(), Fail> {
-    let all = Ask::Apply(b"\x04\x09\x01\x01a\x07\x01\x01a\x07\x02\x01b\x07\x03\x04null");
+    let all = Ask::Apply(b"\x04\x09\x01\x011\x07\x01\x011\x07\x02\x012\x07\x03\x04null");
     let mut site = Site::new()?;
     let steps = [Step(all, Ok([2, 1, 1, 1]), (7, Held::Null(3, 100)), 101)];
     check_steps(&rt, &mut site, &steps)?;
@@ -197,9 +197,9 @@ fn lists_ascend_and_a_client_can_be_in_each(rt: HostRuntime) -> Result<(), Fail>
     Ok(())
 }
 
-// An update of the 63 clients from 2 on, each at clock 1 with a text of one letter.
+// An update of the 63 clients from 2 on, each at clock 1 with a text of one digit.
 fn many() -> [u8; 253] {
-    let mut update = [b'a'; 253];
+    let mut update = [b'1'; 253];
     update[0] = 63;
     for i in 0u8..63 {
         let at = 1 + 4 * i as usize;
@@ -219,15 +219,15 @@ fn full(first: &[u8]) -> Result<Site, Fail> {
 }
 
 // The own client, live at the last clock.
-const OWN_AT_END: &[u8] = b"\x01\x01\xff\xff\xff\xff\x0f\x01a";
+const OWN_AT_END: &[u8] = b"\x01\x01\xff\xff\xff\xff\x0f\x011";
 
 // The table is judged before the own clock, in each call.
 #[test]
 fn a_65th_client_is_refused(rt: HostRuntime) -> Result<(), Fail> {
-    let one = Ask::Apply(b"\x01\x41\x01\x01a");
-    let both = Ask::Apply(b"\x02\x01\xff\xff\xff\xff\x0f\x04null\x41\x01\x01a");
-    let known = Ask::Apply(b"\x02\x01\xff\xff\xff\xff\x0f\x04null\x40\x02\x01a");
-    let later = Ask::Apply(b"\x01\x40\x02\x01b");
+    let one = Ask::Apply(b"\x01\x41\x01\x011");
+    let both = Ask::Apply(b"\x02\x01\xff\xff\xff\xff\x0f\x04null\x41\x01\x011");
+    let known = Ask::Apply(b"\x02\x01\xff\xff\xff\xff\x0f\x04null\x40\x02\x011");
+    let later = Ask::Apply(b"\x01\x40\x02\x012");
     let again = many();
     let own = (1, Held::Live(u32::MAX, 100));
     let steps = [
@@ -260,7 +260,7 @@ fn a_full_table_refuses_removals_and_sets(rt: HostRuntime) -> Result<(), Fail> {
         ),
         Step(Ask::Remove(1), Err(CLOCK_AT_END), own, 102),
         Step(Ask::Clean, Err(CLOCK_AT_END), own, 102),
-        Step(Ask::Set(b"b"), Err(CLOCK_AT_END), own, 102),
+        Step(Ask::Set(b"2"), Err(CLOCK_AT_END), own, 102),
     ];
     let mut site = full(OWN_AT_END)?;
     check_steps(&rt, &mut site, &steps)?;
@@ -272,30 +272,30 @@ fn a_full_table_refuses_removals_and_sets(rt: HostRuntime) -> Result<(), Fail> {
 fn no_place_for_the_own_client(rt: HostRuntime) -> Result<(), Fail> {
     let steps = [
         Step(
-            Ask::Set(b"a"),
+            Ask::Set(b"1"),
             Err(TOO_MANY_CLIENTS),
             (1, Held::Nothing),
             102,
         ),
         Step(Ask::Clean, Err(TOO_MANY_CLIENTS), (1, Held::Nothing), 102),
     ];
-    check_steps(&rt, &mut full(b"\x01\x41\x01\x01a")?, &steps)
+    check_steps(&rt, &mut full(b"\x01\x41\x01\x011")?, &steps)
 }
 
 // Each fault of the bytes of an update.
 #[test]
 fn updates_that_cannot_be_read(rt: HostRuntime) -> Result<(), Fail> {
-    let mut long = [b'a'; 262];
+    let mut long = [b'1'; 262];
     long[0..5].copy_from_slice(b"\x01\x07\x03\x81\x02");
     let table: [(&[u8], WireFault); 6] = [
         (
-            b"\x01\x07\x80\x80\x80\x80\x10\x01a",
+            b"\x01\x07\x80\x80\x80\x80\x10\x011",
             WireFault::InvalidVarInt,
         ),
-        (b"\x02\x07\x03\x01a", WireFault::EndOfBuffer),
+        (b"\x02\x07\x03\x011", WireFault::EndOfBuffer),
         (b"\x01\x07\x03\x01\xff", WireFault::UnexpectedValue),
         (
-            b"\x01\x80\x80\x80\x80\x80\x80\x80\x10\x03\x01a",
+            b"\x01\x80\x80\x80\x80\x80\x80\x80\x10\x03\x011",
             WireFault::InvalidClientId,
         ),
         (b"\x41", WireFault::TooManyEntries),
@@ -331,9 +331,9 @@ fn each_list_needs_64_places(rt: HostRuntime) -> Result<(), Fail> {
 // A null set is no text, and the own client that is made null keeps its time.
 #[test]
 fn the_own_state_is_set(rt: HostRuntime) -> Result<(), Fail> {
-    let longest = [b'a'; 256];
+    let longest = [b'1'; 256];
     let steps = [
-        Step(Ask::Set(b"a"), Ok([0; 4]), (1, Held::Live(1, 100)), 101),
+        Step(Ask::Set(b"1"), Ok([0; 4]), (1, Held::Live(1, 100)), 101),
         Step(Ask::Set(b"null"), Ok([0; 4]), (1, Held::Null(2, 101)), 102),
         Step(Ask::Set(&longest), Ok([0; 4]), (1, Held::Live(3, 102)), 103),
         Step(Ask::Clean, Ok([0; 4]), (1, Held::Null(4, 102)), 103),
@@ -347,8 +347,8 @@ fn no_text_is_set_that_cannot_be_read(rt: HostRuntime) -> Result<(), Fail> {
     let no_text = AwarenessFault::Wire(WireFault::UnexpectedValue);
     let held = (1, Held::Live(1, 100));
     let steps = [
-        Step(Ask::Set(b"a"), Ok([0; 4]), held, 101),
-        Step(Ask::Set(&[b'a'; 257]), Err(too_long), held, 101),
+        Step(Ask::Set(b"1"), Ok([0; 4]), held, 101),
+        Step(Ask::Set(&[b'1'; 257]), Err(too_long), held, 101),
         Step(Ask::Set(b"\xff"), Err(no_text), held, 101),
     ];
     check_steps(&rt, &mut Site::new()?, &steps)
@@ -357,7 +357,7 @@ fn no_text_is_set_that_cannot_be_read(rt: HostRuntime) -> Result<(), Fail> {
 // The clock is read where nothing was held.
 #[test]
 fn clients_are_removed(rt: HostRuntime) -> Result<(), Fail> {
-    let comes = Ask::Apply(b"\x01\x07\x03\x01a");
+    let comes = Ask::Apply(b"\x01\x07\x03\x011");
     let no_id = AwarenessFault::Wire(WireFault::InvalidClientId);
     let steps = [
         Step(comes, Ok([1, 0, 0, 0]), (7, Held::Live(3, 100)), 101),
@@ -388,7 +388,7 @@ fn ids_are_below_2_to_the_53(rt: HostRuntime) -> Result<(), Fail> {
 // Three clients of whom one is gone.
 fn three() -> Result<Awareness, Fail> {
     let mut site = Site::new()?;
-    site.apply(b"\x03\x09\x01\x01c\x05\x02\x01a\x07\x03\x04null")?;
+    site.apply(b"\x03\x09\x01\x013\x05\x02\x011\x07\x03\x04null")?;
     Ok(site.hub)
 }
 
@@ -408,8 +408,8 @@ fn written<const N: usize>(
 #[test]
 fn updates_are_written(rt: HostRuntime) -> Result<(), Fail> {
     let table: [(Option<&[u64]>, usize, [u8; 12]); 3] = [
-        (None, 9, *b"\x02\x05\x02\x01a\x09\x01\x01c\xee\xee\xee"),
-        (Some(&[7, 5, 7]), 12, *b"\x02\x05\x02\x01a\x07\x03\x04null"),
+        (None, 9, *b"\x02\x05\x02\x011\x09\x01\x013\xee\xee\xee"),
+        (Some(&[7, 5, 7]), 12, *b"\x02\x05\x02\x011\x07\x03\x04null"),
         (
             Some(&[]),
             1,
@@ -469,14 +469,14 @@ fn winner<'a>(hub: &'a Awareness, update: &'a [u8]) -> Result<Option<&'a [u8]>, 
 #[test]
 fn the_winning_text_is_one_of_the_two(rt: HostRuntime) -> Result<(), Fail> {
     let mut site = Site::new()?;
-    site.apply(b"\x02\x07\x03\x01a\x01\x03\x01b")?;
+    site.apply(b"\x02\x07\x03\x011\x01\x03\x012")?;
     let table: [(&[u8], Option<&[u8]>); 6] = [
-        (b"\x01\x07\x03\x01c", Some(b"a")),
-        (b"\x01\x07\x04\x01c", Some(b"c")),
+        (b"\x01\x07\x03\x013", Some(b"1")),
+        (b"\x01\x07\x04\x013", Some(b"3")),
         (b"\x01\x07\x03\x04null", None),
-        (b"\x01\x07\x02\x04null", Some(b"a")),
-        (b"\x01\x01\x04\x04null", Some(b"b")),
-        (b"\x01\x01\x04\x01c", Some(b"c")),
+        (b"\x01\x07\x02\x04null", Some(b"1")),
+        (b"\x01\x01\x04\x04null", Some(b"2")),
+        (b"\x01\x01\x04\x013", Some(b"3")),
     ];
     for (update, text) in table {
         assert_eq!(rt; winner(&site.hub, update)?, text);
@@ -503,7 +503,7 @@ fn clocks_tell_readings(rt: HostRuntime) {
 #[test]
 fn an_update_is_taken_with_nobody_told(rt: HostRuntime) -> Result<(), Fail> {
     let mut hub = Awareness::new(1)?;
-    let update = ArrivedUpdate::read(b"\x01\x07\x03\x01a")?;
+    let update = ArrivedUpdate::read(b"\x01\x07\x03\x011")?;
     hub.apply_update(&update, &mut SetClock { reading: 7 }, &mut Nobody)?;
     assert_eq!(rt; hub.records().len(), 1);
     Ok(())
@@ -513,11 +513,11 @@ fn an_update_is_taken_with_nobody_told(rt: HostRuntime) -> Result<(), Fail> {
 #[test]
 fn an_entry_alone_does_what_its_update_does(rt: HostRuntime) -> Result<(), Fail> {
     let updates: [&[u8]; 8] = [
-        b"\x01\x01\x05\x01a",
+        b"\x01\x01\x05\x011",
         b"\x01\x01\x05\x04null",
         b"\x01\x01\xff\xff\xff\xff\x0f\x04null",
-        b"\x01\x07\x03\x01a",
-        b"\x01\x07\x03\x01b",
+        b"\x01\x07\x03\x011",
+        b"\x01\x07\x03\x012",
         b"\x01\x07\x03\x04null",
         b"\x01\x07\x04",
         b"\x00",

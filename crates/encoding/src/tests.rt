@@ -158,7 +158,7 @@ fn texts_longer_than_a_block(rt: HostRuntime) {
 
 #[test]
 fn presence_texts_meet_utf8_before_length(rt: HostRuntime) -> Result<(), Fail> {
-    let mut text = [b'a'; 257];
+    let mut text = [b'1'; 257];
     assert_eq!(rt; check_presence_text(&text[0..256]), Ok(()));
     assert_eq!(rt; check_presence_text(&text), Err(WireFault::TextTooLong));
     text[200] = 0xff;
@@ -173,6 +173,16 @@ fn presence_texts_meet_utf8_before_length(rt: HostRuntime) -> Result<(), Fail> {
         "too long and cut"
     );
     Ok(())
+}
+
+// A presence text may be no JSON.
+const NO_JSON: [&[u8]; 4] = [b"", b"a", b"nul", b"\"in"];
+
+#[test]
+fn presence_texts_are_not_looked_into(rt: HostRuntime) {
+    for text in NO_JSON {
+        assert_eq!(rt; check_presence_text(text), Ok(()));
+    }
 }
 
 #[test]

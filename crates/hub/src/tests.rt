@@ -247,7 +247,7 @@ fn an_unreadable_message_changes_nothing(rt: HostRuntime) -> Result<(), Fail> {
     let table: [(&[u8], WireFault); 9] = [
         (b"\x03\x80\x02", WireFault::InvalidVarInt),
         (
-            b"\x03\x01\x09\x01\x07\x80\x80\x80\x80\x10\x01a",
+            b"\x03\x01\x09\x01\x07\x80\x80\x80\x80\x10\x011",
             WireFault::InvalidVarInt,
         ),
         (b"\x03\x00\x00\x02\x01\x05", WireFault::EndOfBuffer),
@@ -295,7 +295,7 @@ fn a_refused_message_changes_nothing(rt: HostRuntime) -> Result<(), Fail> {
 // A presence text of 257 bytes, and one of 256 that is set.
 #[test]
 fn too_long_a_text_is_refused(rt: HostRuntime) -> Result<(), Fail> {
-    let mut long = [b'a'; 265];
+    let mut long = [b'1'; 265];
     long[0..8].copy_from_slice(b"\x01\x86\x02\x01\x07\x03\x81\x02");
     let too_long = Err(Fault::Wire(WireFault::TextTooLong));
     let steps = [
@@ -310,7 +310,7 @@ fn too_long_a_text_is_refused(rt: HostRuntime) -> Result<(), Fail> {
 #[test]
 fn what_is_done_before_a_refusal_stays(rt: HostRuntime) -> Result<(), Fail> {
     let mut hub = counts()?;
-    let bytes = b"\x00\x02\x03\x01\x05\x02\x01\x05\x01\x07\x03\x01a\x00\x00\x01\x00\x05\x00\x03";
+    let bytes = b"\x00\x02\x03\x01\x05\x02\x01\x05\x01\x07\x03\x011\x00\x00\x01\x00\x05\x00\x03";
     let unsupported = Fault::Policy(PolicyFault::Unsupported);
     let came = (
         refused(unsupported, 3, 17, 6),
@@ -329,15 +329,15 @@ fn what_is_done_before_a_refusal_stays(rt: HostRuntime) -> Result<(), Fail> {
     Ok(())
 }
 
-// A hub of 64 clients, each with a text of one letter: its own at the last clock, the others at clock 1.
+// A hub of 64 clients, each with a text of one digit: its own at the last clock, the others at clock 1.
 fn full() -> Result<Counts, Fail> {
     let mut hub = counts()?;
     answer_to(
         &mut hub,
-        Ask::Handle(b"\x01\x09\x01\x01\xff\xff\xff\xff\x0f\x01a"),
+        Ask::Handle(b"\x01\x09\x01\x01\xff\xff\xff\xff\x0f\x011"),
     )?;
     for client in 2u8..65 {
-        answer_to(&mut hub, Ask::Handle(&[1, 5, 1, client, 1, 1, b'a']))?;
+        answer_to(&mut hub, Ask::Handle(&[1, 5, 1, client, 1, 1, b'1']))?;
     }
     Ok(hub)
 }
@@ -347,9 +347,9 @@ fn full() -> Result<Counts, Fail> {
 fn a_full_table_refuses(rt: HostRuntime) -> Result<(), Fail> {
     let too_many = Err(Fault::Presence(PresenceFault::TooManyClients));
     let at_end = Err(Fault::Presence(PresenceFault::ClockAtEnd));
-    let a_65th = Ask::Handle(b"\x01\x05\x01\x41\x01\x01a");
+    let a_65th = Ask::Handle(b"\x01\x05\x01\x41\x01\x011");
     let own_null = Ask::Handle(b"\x01\x0c\x01\x01\xff\xff\xff\xff\x0f\x04null");
-    let known = Ask::Handle(b"\x01\x05\x01\x40\x02\x01b");
+    let known = Ask::Handle(b"\x01\x05\x01\x40\x02\x012");
     let own = (1, Held::Live(u32::MAX, 100));
     let steps = [
         Step(a_65th, too_many, (65, Held::Nothing), 164),
@@ -357,7 +357,7 @@ fn a_full_table_refuses(rt: HostRuntime) -> Result<(), Fail> {
         Step(Ask::Remove(65), too_many, (65, Held::Nothing), 164),
         Step(Ask::Remove(1), at_end, own, 164),
         Step(Ask::Clean, at_end, own, 164),
-        Step(Ask::Set(b"b"), at_end, (64, Held::Live(1, 163)), 164),
+        Step(Ask::Set(b"2"), at_end, (64, Held::Live(1, 163)), 164),
         Step(known, Ok(1), (64, Held::Live(2, 164)), 165),
     ];
     let mut hub = full()?;
@@ -413,7 +413,7 @@ fn an_own_id_is_judged(rt: HostRuntime) {
 fn the_own_state_is_set(rt: HostRuntime) -> Result<(), Fail> {
     let no_text = Err(Fault::Wire(WireFault::UnexpectedValue));
     let steps = [
-        Step(Ask::Set(b"a"), Ok(0), (1, Held::Live(1, 100)), 101),
+        Step(Ask::Set(b"1"), Ok(0), (1, Held::Live(1, 100)), 101),
         Step(Ask::Set(b"\xff"), no_text, (1, Held::Live(1, 100)), 101),
         Step(Ask::Clean, Ok(0), (1, Held::Null(2, 100)), 101),
     ];
@@ -452,9 +452,9 @@ fn records_are_listed(rt: HostRuntime) -> Result<(), Fail> {
     let mut hub = counts()?;
     answer_to(
         &mut hub,
-        Ask::Handle(b"\x01\x0d\x03\x09\x01\x01c\x05\x02\x01a\x07\x03\x01b"),
+        Ask::Handle(b"\x01\x0d\x03\x09\x01\x013\x05\x02\x011\x07\x03\x012"),
     )?;
-    let two = *b"\x02\x05\x02\x01a\x09\x01\x01c\xee";
+    let two = *b"\x02\x05\x02\x011\x09\x01\x013\xee";
     assert_eq!(rt; listed(&hub, &[9, 5, 9]), (Ok(9), two));
     let table: [(&[u64], Fault); 4] = [
         (&[8; 65], Fault::Wire(WireFault::TooManyEntries)),
@@ -526,7 +526,7 @@ fn changes_are_listed(rt: HostRuntime) -> Result<(), Fail> {
         changed: 1,
         removed: 1,
     };
-    let update = b"\x03\x07\x04\x01a\x09\x01\x01b\x07\x05\x04null";
+    let update = b"\x03\x07\x04\x011\x09\x01\x012\x07\x05\x04null";
     assert_eq!(rt; places.apply(&mut hub, update), Ok(one_each));
     let seven = list_of(7);
     assert_eq!(rt; places.lists(), [list_of(9), seven, seven, seven]);
@@ -559,7 +559,7 @@ fn refused_updates_leave_the_lists(rt: HostRuntime) -> Result<(), Fail> {
     let mut hub = counts()?;
     let mut places = Places::new();
     let cut = alone(Fault::Wire(WireFault::EndOfBuffer));
-    assert_eq!(rt; places.apply(&mut hub, b"\x02\x07\x03\x01a"), Err(cut));
+    assert_eq!(rt; places.apply(&mut hub, b"\x02\x07\x03\x011"), Err(cut));
     assert_eq!(rt; places.lists(), [[NO_CLIENT; 64]; 4]);
     assert_eq!(rt; sizes(&hub), (0, 0, 100));
     Ok(())
@@ -663,14 +663,14 @@ fn all_places() -> RunPlaces {
 
 // Calls of every kind, each with what is noted of it.
 fn calls_with_notes() -> [(Call<'static>, Noted); 11] {
-    let two = b"\x02\x09\x01\x01b\x07\x03\x01a";
-    let three = b"\x03\x08\x01\x01c\x07\x04\x01b\x09\x01\x04null";
+    let two = b"\x02\x09\x01\x012\x07\x03\x011";
+    let three = b"\x03\x08\x01\x013\x07\x04\x012\x09\x01\x04null";
     let gone = Held::Null(5, 102);
     let no_id = Fault::Wire(WireFault::InvalidClientId);
     [
         (Call::Handle(b"\x03"), Noted::Handled(done(1, 1, 3))),
         (Call::Apply(two), Noted::Applied(lengths(2, 0, 0, 0))),
-        (Call::Set(b"a"), Noted::Done),
+        (Call::Set(b"1"), Noted::Done),
         (Call::Apply(three), Noted::Applied(lengths(1, 1, 1, 1))),
         (Call::Step1, Noted::Written(4)),
         (Call::Remove(7), Noted::Done),
@@ -704,7 +704,7 @@ fn a_run_notes_each_answer(rt: HostRuntime) -> Result<(), Fail> {
     assert_eq!(rt; note_of(&answers[11]), Noted::Written(9));
     assert_eq!(rt;
         places.out,
-        *b"\x01\x01\x00\x00\x00\x01\x00\x01\x08\x01\x01c\x00\x00\x01\x00\x01\x05\x01\x08\x01\x01c\xee\xee"
+        *b"\x01\x01\x00\x00\x00\x01\x00\x01\x08\x01\x013\x00\x00\x01\x00\x01\x05\x01\x08\x01\x013\xee\xee"
     );
     assert_eq!(rt; &places.added[..4], [7, 9, 8, 0].as_slice());
     for list in [&places.updated, &places.changed] {
@@ -719,7 +719,7 @@ fn a_run_notes_each_answer(rt: HostRuntime) -> Result<(), Fail> {
 // An id that no client can have (4) comes before too few places for answers (14); nothing is noted or written.
 #[test]
 fn a_run_is_refused_whole(rt: HostRuntime) {
-    let calls = [Call::Start, Call::Apply(b"\x01\x07\x03\x01a")];
+    let calls = [Call::Start, Call::Apply(b"\x01\x07\x03\x011")];
     for (own, room, number) in [(NO_CLIENT, 2, 4), (NO_CLIENT, 1, 4), (1, 1, 14)] {
         let mut answers = [Answer::Written(9), Answer::Written(8)];
         let mut places = all_places();

@@ -52,7 +52,7 @@ fn each_refusal_through_a_message(rt: HostRuntime) {
 
 // A presence text of 257 bytes, as a message.
 fn long_text() -> [u8; 265] {
-    let mut m = [b'a'; 265];
+    let mut m = [b'1'; 265];
     m[..8].copy_from_slice(b"\x01\x86\x02\x01\x07\x03\x81\x02");
     m
 }
@@ -227,7 +227,7 @@ fn refusal(client: u64, text: &[u8]) -> Option<WireFault> {
 #[test]
 fn a_presence_is_judged_when_it_is_made(rt: HostRuntime) {
     let id = 9007199254740992;
-    let long = [b'a'; 257];
+    let long = [b'1'; 257];
     let table: [(u64, &[u8], Option<WireFault>); 4] = [
         (id, b"1", Some(WireFault::InvalidClientId)),
         (7, &long, Some(WireFault::TextTooLong)),
@@ -271,11 +271,11 @@ fn two_read_back_as_others(rt: HostRuntime) -> Result<(), Fail> {
 #[test]
 fn a_single_entry_is_read(rt: HostRuntime) {
     let table: [(&[u8], Option<(u64, u32)>); 6] = [
-        (b"\x01\x07\x03\x01a", Some((7, 3))),
-        (b"\x01\x07\x03\x01a\xff", Some((7, 3))),
+        (b"\x01\x07\x03\x011", Some((7, 3))),
+        (b"\x01\x07\x03\x011\xff", Some((7, 3))),
         (b"\x00", None),
-        (b"\x02\x07\x03\x01a\x08\x01\x01b", None),
-        (b"\x01\x07\x03\x02a", None),
+        (b"\x02\x07\x03\x011\x08\x01\x012", None),
+        (b"\x01\x07\x03\x021", None),
         (b"", None),
     ];
     for (update, entry) in table {
