@@ -49,7 +49,7 @@ int main(void) {
     printf("faults %u %u", presence_hub_new(&nowhere, 1, 0), presence_hub_clean(&nowhere));
     printf(" %u", presence_hub_new(&hubs[0], UINT64_C(1) << 53, 0));
     printf(" %u %u\n", presence_hub_new(&hubs[0], 1, 1000), presence_hub_new(&hubs[1], 2, 2000));
-    printf("fault %u\n", presence_hub_set(&hubs[0], (const uint8_t *)"in the hall", 11));
+    printf("fault %u\n", presence_hub_set(&hubs[0], (const uint8_t *)"\"in a hall\"", 11));
     handle(&hubs[0], (const uint8_t *)"\x00\x02\x03\x01\x05\x02", 6, replies);
     handle(&hubs[1], (const uint8_t *)"\x00\x02\x03\x01\x07\x09", 6, replies);
     for (int from = 0; from < 2; from++) {
@@ -62,7 +62,7 @@ int main(void) {
     presence_hub_step1(&hubs[1], sent, ROOM, &length);
     print_bytes("step1", sent, length);
     show(&hubs[1], 1);
-    printf("faults %u %u\n", presence_hub_set_clock(&hubs[1], 2500), presence_hub_set(&hubs[0], (const uint8_t *)"out", 3));
+    printf("faults %u %u\n", presence_hub_set_clock(&hubs[1], 2500), presence_hub_set(&hubs[0], (const uint8_t *)"\"out\"", 5));
     printf("fault %u\n", presence_hub_list(&hubs[0], (const uint64_t[]){1}, 1, sent, ROOM, &length));
     presence_hub_changes told = {0};
     printf("fault %u\n", presence_hub_apply(&hubs[1], sent, length, lists[0], 64, lists[1], 64, lists[2], 64, lists[3], 64, &told));

@@ -54,7 +54,7 @@ fn main() {
     print!("faults {} {}", nowhere.make(1, 0), nowhere.clean());
     print!(" {}", hubs[0].make(1 << 53, 0));
     println!(" {} {}", hubs[0].make(1, 1000), hubs[1].make(2, 2000));
-    println!("fault {}", hubs[0].set(b"in the hall"));
+    println!("fault {}", hubs[0].set(b"\"in a hall\""));
     handle(&mut hubs[0], b"\x00\x02\x03\x01\x05\x02");
     handle(&mut hubs[1], b"\x00\x02\x03\x01\x07\x09");
     for from in 0..2 {
@@ -66,7 +66,7 @@ fn main() {
     hubs[1].step1(&mut out, &mut length);
     println!("step1 {}", hex(&out[..length]));
     show(&mut hubs[1], 1);
-    println!("faults {} {}", hubs[1].set_clock(2500), hubs[0].set(b"out"));
+    println!("faults {} {}", hubs[1].set_clock(2500), hubs[0].set(b"\"out\""));
     println!("fault {}", hubs[0].list(&[1], &mut out, &mut length));
     apply(&mut hubs[1], &out[..length]);
     show(&mut hubs[1], 1);
