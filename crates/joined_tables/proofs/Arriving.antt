@@ -1,12 +1,12 @@
 -- Entries that come to a table one after another, as a program brings them.
 use Rattle.std.proofs.Common.{◌≡◌, ℕ, ◌+◌, ◌≤◌, Bool, true, false, T, List, [], ◌∷◌, length, Some, None, Option, sym, refl, ap, ◌∙◌, subst, ⊎_elim, arith}
-use Rattle.std.proofs.lemmas.Bool.{true≢false, both_ways, and_parts, cases_Bool, cases_eq, cond-true, cond-false}
+use Rattle.std.proofs.lemmas.Bool.{true≢false, both_ways, and_parts, and_from, cases_Bool, cases_eq, cond-true, cond-false}
 use Rattle.std.specs.List.{list_all}
 use Rattle.state_vector.specs.Tables.{Order, ascends, entered, held, raised}
 use Rattle.state_vector.proofs.Entering.{held_other, held_own, length_entered, length_kept}
 use Rattle.state_vector.proofs.Keys.{same_rows}
 use Rattle.joined_tables.specs.Joined.{passing, sound, Sound, admit, none, enter, gather, joined, table, Decided}
-use Rattle.joined_tables.proofs.Gathering.{up, same_table, enter_fine, joins_lawful}
+use Rattle.joined_tables.proofs.Gathering.{up, pass, same_table, enter_fine, joins_lawful}
 use Rattle.joined_tables.proofs.Mapping.{held_passes}
 
 -- a table that is admitted, and one that is not
@@ -25,6 +25,10 @@ module _ {E : Type 0} (key : E → ℕ) (above : E → E → Bool) (fine : E →
 
   pub table_is : (xs : List E) → sound key fine xs ≡ true → (table key above fine xs).0 ≡ xs
   table_is xs e = admitted xs (none key above fine) e
+
+  -- a table is the table with its entries
+  pub table_of : (d : Sound key fine) → table key above fine d.0 ≡ d
+  table_of d = same_table key above fine _ d (table_is d.0 (and_from _ _ (up key above fine d) (pass key above fine d)))
 
   -- an entry that passes comes into the table with these entries
   pub enter_table : (xs : List E) (e : E) → sound key fine xs ≡ true → sound key fine (entered key above xs e) ≡ true → fine e ≡ true → enter key above fine (table key above fine xs) e ≡ table key above fine (entered key above xs e)

@@ -4,6 +4,7 @@ pub mod Keys
 pub mod Lookups
 pub mod Offering
 pub mod Rows
+pub mod Shifts
 pub mod Sizes
 pub mod Vectors
 pub mod VectorsOut

@@ -3,6 +3,7 @@
 
 pub mod keyed;
 pub mod laws;
+pub mod lent;
 pub mod standing;
 #[cfg(test)]
 mod tests;

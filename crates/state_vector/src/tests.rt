@@ -1,12 +1,15 @@
 // Short examples, and an entry type as presence has them, which the order law has to fit.
-ghost use Rattle.std.specs.Prelude.{not, ◌&&◌, ◌||◌, ◌==◌, nat_lt};
+ghost use Rattle.std.specs.Prelude.{[], not, ◌≡◌, ◌&&◌, ◌||◌, ◌==◌, nat_lt};
 ghost use Rattle.std.proofs.Common.{rules};
+ghost use Rattle.state_vector.specs.Tables.{offered, outcome};
 
 use crate::keyed::{Keyed, Outcome, Table, TableFull};
+use crate::lent::LentTable;
 use crate::standing::Standing;
 use crate::vector::{StateVector, VectorEntry, check_vector};
 use encoding::fault::WireFault;
 use encoding::sink::{BufferTooShort, Filler};
+use std::marker::Model;
 use std::test::Fail;
 
 // An entry as presence has them: a higher clock stands above, and at the same clock one that is gone above one that is live.
@@ -41,6 +44,51 @@ impl Standing for Presence {
     }
 }
 
+// An owner of two places, which hands them to a table for one call.
+#[derive(Drop)]
+struct Pair {
+    entries: [Presence; 2],
+    len: usize,
+}
+
+impl Model for Pair {
+    ghost use Rattle.std.specs.Prelude.{◌≡◌, ◌≤◌, true, List, take};
+    ghost use Rattle.state_vector.specs.Tables.{ascends};
+    ghost use Rattle.state_vector.specs.declared.tests.Presence.{Presence};
+
+    ghost Value = { List Presence };
+
+    ghost view = { λ p. take p.len p.entries };
+
+    ghost invariant = { λ p. (p.len ≤ 2) × (ascends (λ e. e.client) (take p.len p.entries) ≡ true) };
+}
+
+impl Pair {
+    // Two free places.
+    fn new() -> Pair
+        ensures { result ≡ [] }
+    {
+        Pair {
+            entries: [Presence::default(); 2],
+            len: 0,
+        }
+    }
+
+    // Offers an entry to the table over the two.
+    fn offer(&mut self, e: Presence) -> Result<Outcome, TableFull>
+        ensures answer { result ≡ outcome (λ e. e.client) (λ x y. nat_lt y.clock x.clock || (x.clock == y.clock && (not x.live && y.live))) 2 self.old e }
+        ensures used { self.new ≡ offered (λ e. e.client) (λ x y. nat_lt y.clock x.clock || (x.clock == y.clock && (not x.live && y.live))) 2 self.old e }
+    {
+        let mut table = LentTable {
+            entries: &mut self.entries,
+            len: self.len,
+        };
+        let r = table.offer(e);
+        self.len = table.len;
+        r
+    }
+}
+
 // An entry of a client at a clock.
 fn seen_at(client: u64, clock: u32, live: bool) -> Presence {
     Presence {
@@ -63,6 +111,24 @@ fn offers(rt: HostRuntime) {
     assert_eq!(rt; pair.offer(seen_at(3, 2, true)), Ok(Outcome::Replaced));
     assert_eq!(rt; pair.len(), 2);
     let (first, second) = (pair.entries()[0], pair.entries()[1]);
+    assert_eq!(rt; first.client, 3);
+    assert_eq!(rt; first.clock, 2);
+    assert!(rt; !second.live);
+}
+
+// The same in two places that are lent.
+#[test]
+fn offers_to_lent_places(rt: HostRuntime) {
+    let mut pair = Pair::new();
+    assert_eq!(rt; pair.offer(seen_at(7, 1, true)), Ok(Outcome::Inserted));
+    assert_eq!(rt; pair.offer(seen_at(3, 1, true)), Ok(Outcome::Inserted));
+    assert_eq!(rt; pair.offer(seen_at(5, 9, true)), Err(TableFull));
+    assert_eq!(rt; pair.offer(seen_at(7, 1, true)), Ok(Outcome::Kept));
+    assert_eq!(rt; pair.offer(seen_at(7, 1, false)), Ok(Outcome::Replaced));
+    assert_eq!(rt; pair.offer(seen_at(7, 1, true)), Ok(Outcome::Kept));
+    assert_eq!(rt; pair.offer(seen_at(3, 2, true)), Ok(Outcome::Replaced));
+    assert_eq!(rt; pair.len, 2);
+    let [first, second] = pair.entries;
     assert_eq!(rt; first.client, 3);
     assert_eq!(rt; first.clock, 2);
     assert!(rt; !second.live);

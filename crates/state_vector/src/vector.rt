@@ -114,8 +114,9 @@ impl StateVector {
     pub fn read(s: &[u8]) -> Result<StateVector, WireFault>
         ensures { result ≡ vector s.now }
     {
+        let entries = Entries::<VectorEntry>::read::<u32>(s)?;
         let mut v = StateVector::new();
-        for e in Entries::<VectorEntry>::read::<u32>(s)? {
+        for e in entries {
             v.put(e?)?;
         }
         Ok(v)
