@@ -11,3 +11,4 @@ pub mod Backs
 pub mod Sendings
 pub mod Counted
 pub mod Chosen
+pub mod Walks

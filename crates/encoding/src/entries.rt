@@ -109,3 +109,27 @@ pub fn skip_entries<'a, E: Decode<'a>>(s: &'a [u8], n: usize) -> Result<&'a [u8]
     }
     Ok(walk.rest)
 }
+
+// The layout of one entry: how it is passed over, with no value made of it.
+pub trait Layout {
+    // what an entry is
+    ghost item: { Type 0 };
+
+    // how one is read
+    ghost entry: { List ℕ → Reading item };
+
+    // The bytes after the first entry.
+    fn skip(s: &[u8]) -> Result<&[u8], WireFault>
+        ensures { past_of result ≡ past (entry s.now) };
+}
+
+// The bytes after `n` entries of a layout. `skip_entries` passes entries that are values, which a layout need not have.
+pub fn pass_entries<L: Layout>(s: &[u8], n: usize) -> Result<&[u8], WireFault>
+    ensures { past_of result ≡ past (entries L.Layout.entry n s.now) }
+{
+    let mut rest = s;
+    for _ in 0..n {
+        rest = L::skip(rest)?;
+    }
+    Ok(rest)
+}

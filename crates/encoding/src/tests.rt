@@ -3,7 +3,7 @@ ghost use Rattle.std.specs.Prelude.{ℕ, ◌^◌, ◌-◌, nat_lt};
 ghost use Rattle.encoding.specs.VarUint.{var_uint};
 ghost use Rattle.encoding.specs.Writing.{shortest};
 
-use crate::entries::{Decode, Entries, check_counted, skip_entries};
+use crate::entries::{Decode, Entries, Layout, check_counted, pass_entries, skip_entries};
 use crate::entries_out::{Choice, Chosen, Entry};
 use crate::fault::WireFault;
 use crate::read::*;
@@ -256,6 +256,21 @@ impl<'a> Decode<'a> for Small {
     }
 }
 
+// Entries of eight bits that are passed over.
+struct Passed;
+
+impl Layout for Passed {
+    ghost item = { ℕ };
+
+    ghost entry = { var_uint (2 ^ 8 - 1) };
+
+    // The bytes after a number.
+    fn skip(s: &[u8]) -> Result<&[u8], WireFault> {
+        let (_n, rest) = read_var::<u8>(s)?;
+        Ok(rest)
+    }
+}
+
 impl Entry for Small {
     ghost out = { λ e. shortest e.0 };
 
@@ -293,6 +308,24 @@ fn entries_are_read_one_after_another(rt: HostRuntime) -> Result<(), Fail> {
     );
     let rest = skip_entries::<Small>(&bytes, 2)?;
     assert_eq!(rt; rest, [9].as_slice());
+    Ok(())
+}
+
+#[test]
+fn entries_are_passed_unread(rt: HostRuntime) -> Result<(), Fail> {
+    let bytes = [7, 0xff, 0x01, 9];
+    let whole = pass_entries::<Passed>(&bytes, 0)?;
+    assert_eq!(rt; whole, bytes.as_slice());
+    let rest = pass_entries::<Passed>(&bytes, 2)?;
+    assert_eq!(rt; rest, [9].as_slice());
+    assert_eq!(rt;
+        pass_entries::<Passed>(&bytes, 4).err(),
+        Some(WireFault::EndOfBuffer)
+    );
+    assert_eq!(rt;
+        pass_entries::<Passed>(&[7, 0x80, 0x02, 9], 3).err(),
+        Some(WireFault::InvalidVarInt)
+    );
     Ok(())
 }
 
