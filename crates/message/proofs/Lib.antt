@@ -1,6 +1,7 @@
 pub mod Spelt
 pub mod Contents
 pub mod Arrivals
+pub mod Padding
 pub mod Rows
 pub mod Sending
 pub mod Sound

@@ -1,28 +1,49 @@
 // A presence text of its own, for what is kept and what is written.
-ghost use Rattle.std.specs.Prelude.{◌≡◌, ◌≤◌, length, Ok};
+ghost use Rattle.std.specs.Prelude.{◌≡◌, ◌-◌, ◌≤◌, ◌++◌, length, drop, replicate, Ok};
 ghost use Rattle.encoding.specs.Fields.{presence_text};
 ghost use Rattle.message.specs.Owned.{kept_text};
 
-use arrayvec::ArrayVec;
 use encoding::fault::WireFault;
 use encoding::read::{MAX_PRESENCE_TEXT, check_presence_text};
 use std::marker::Model;
 
-// At most 256 bytes that can be a presence text.
-#[derive(Drop)]
+// At most 256 bytes that can be a presence text. The places behind them are 0, so that a text is told by its bytes and can be copied as it lies.
+#[derive(Clone, Copy)]
 pub struct PresenceText {
-    bytes: ArrayVec<u8, MAX_PRESENCE_TEXT>,
+    bytes: [u8; MAX_PRESENCE_TEXT],
+    len: usize,
 }
 
 impl Model for PresenceText {
-    ghost use Rattle.std.specs.Prelude.{◌≡◌, ℕ, List, Ok};
+    ghost use Rattle.std.specs.Prelude.{◌≡◌, ◌-◌, ◌≤◌, ◌++◌, ℕ, List, Ok, length, take, drop, replicate};
     ghost use Rattle.encoding.specs.Fields.{presence_text};
+    ghost use Rattle.std.proofs.Common.{◌∙◌, ap, subst, sym};
+    ghost use Rattle.std.proofs.lemmas.List.{length-take-le, take-append-drop};
 
     ghost Value = { List ℕ };
 
-    ghost view = { λ t. t.bytes.items };
+    ghost view = { λ t. take t.len t.bytes };
 
-    ghost invariant = { λ t. presence_text t.bytes.items ≡ Ok tt };
+    ghost invariant = { λ t. (t.len ≤ 256) × (length t.bytes ≡ 256) × (drop t.len t.bytes ≡ replicate (256 - t.len) 0) × (presence_text (take t.len t.bytes) ≡ Ok tt) };
+
+    ghost inverse = { λ v. record { bytes = v ++ replicate (256 - length v) 0; len = length v } };
+
+    ghost inverse_ok = { λ t h i. let long = length-take-le t.len t.bytes (subst (λ n. t.len ≤ n) (sym h.1) h.0) in record {
+      bytes = (ap (λ n. take t.len t.bytes ++ replicate (256 - n) 0) long ∙ ap (λ ys. take t.len t.bytes ++ ys) (sym h.2) ∙ take-append-drop t.len t.bytes) i;
+      len = long i;
+    } };
+}
+
+// Writes a text over an earlier one in the first `held` places of a row that has zeros behind it, with zeros behind it again.
+fn write_over(bytes: &mut [u8], held: usize, text: &[u8])
+    requires fits { length text.now ≤ length bytes.old }
+    requires held { held ≤ length bytes.old }
+    requires zeros { drop held bytes.old ≡ replicate (length bytes.old - held) 0 }
+    ensures { bytes.new ≡ text.now ++ replicate (length bytes.old - length text.now) 0 }
+{
+    let (front, back) = bytes.split_at_mut(text.len());
+    front.copy_from_slice(text);
+    back[0..held.saturating_sub(text.len())].fill(0);
 }
 
 impl PresenceText {
@@ -39,8 +60,11 @@ impl PresenceText {
         requires { presence_text text.now ≡ Ok tt }
         ensures { result ≡ text.now }
     {
+        let mut bytes = [0; MAX_PRESENCE_TEXT];
+        write_over(&mut bytes, 0, text);
         PresenceText {
-            bytes: ArrayVec::try_from(text).unwrap(),
+            bytes,
+            len: text.len(),
         }
     }
 
@@ -49,17 +73,16 @@ impl PresenceText {
         requires { presence_text text.now ≡ Ok tt }
         ensures { self.new ≡ text.now }
     {
-        self.bytes.truncate(text.len());
-        let (front, back) = text.split_at(self.bytes.len());
-        self.bytes.as_mut_slice().copy_from_slice(front);
-        self.bytes.try_extend_from_slice(back).unwrap();
+        let PresenceText { bytes, len } = self;
+        write_over(bytes, *len, text);
+        *len = text.len();
     }
 
-    // A copy of the text, which cannot fail. By hand, since `Clone` answers that memory may be wanting, and nothing is allocated here.
+    // A copy of the text, which cannot fail: `clone` answers that memory may be wanting, and nothing is allocated here.
     pub fn copy(&self) -> PresenceText
         ensures { result ≡ self.now }
     {
-        PresenceText::passed(self.as_bytes())
+        *self
     }
 
     // The bytes of the text.
@@ -68,6 +91,6 @@ impl PresenceText {
         ensures short { length result.now ≤ 256 }
         ensures passes { presence_text result.now ≡ Ok tt }
     {
-        self.bytes.as_slice()
+        &self.bytes[0..self.len]
     }
 }

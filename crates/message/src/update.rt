@@ -15,11 +15,12 @@ use crate::presence::PresenceEntry;
 use crate::text::PresenceText;
 use encoding::fault::WireFault;
 use encoding::read::{MAX_ENTRIES, check_client_id};
-use state_vector::keyed::{Keyed, Table};
+use state_vector::keyed::{Keyed, find};
+use state_vector::lent::{insert, replace};
 use std::marker::Model;
 
 // What one client says of itself, with an id that can be written.
-#[derive(Default, Drop)]
+#[derive(Clone, Copy, Default)]
 pub struct Presence {
     client: u64,
     clock: u32,
@@ -35,6 +36,8 @@ impl Model for Presence {
     ghost view = { λ p. record { client = p.client; clock = p.clock; state = p.state } };
 
     ghost invariant = { λ p. Readable (record { client = p.client; clock = p.clock; state = p.state }) };
+
+    ghost inverse = { λ e. record { client = e.client; clock = e.clock; state = e.state } };
 }
 
 // A state becomes a copy of one that has been judged; a text goes where the text held lies.
@@ -93,25 +96,17 @@ impl Presence {
         renew_state(state, e.state());
     }
 
-    // A copy of what it says, which cannot fail; as `PresenceText::copy`, and no `Clone`.
+    // A copy of what it says, which cannot fail; as `PresenceText::copy`.
     pub fn copy(&self) -> Presence
         ensures { result ≡ self.now }
     {
-        let Presence {
-            client,
-            clock,
-            state,
-        } = self;
-        Presence {
-            client: *client,
-            clock: *clock,
-            state: state.as_ref().map(|text| text.copy()),
-        }
+        *self
     }
 
-    // Its clock.
+    // Its clock; all that it says can be read again.
     pub fn clock(&self) -> u32
-        ensures { result ≡ self.now.clock }
+        ensures value { result ≡ self.now.clock }
+        ensures readable { Readable self.now }
     {
         self.clock
     }
@@ -136,28 +131,34 @@ impl Presence {
 impl Keyed for Presence {
     ghost key = { λ e. e.client };
 
-    fn client(&self) -> u64 {
+    // Its client id; all that it says can be read again.
+    fn client(&self) -> u64
+        ensures value { result ≡ self.now.client }
+        ensures readable { Readable self.now }
+    {
         self.client
     }
 }
 
-// At most 64 entries that ascend by client id.
+// At most 64 entries that ascend by client id, in places of its own: an empty update is made for each message, and is quick to make so.
 #[derive(Drop)]
 pub struct PresenceUpdate {
-    table: Table<Presence, MAX_ENTRIES>,
+    entries: [Presence; MAX_ENTRIES],
+    len: usize,
 }
 
 impl Model for PresenceUpdate {
-    ghost use Rattle.std.specs.Prelude.{List};
+    ghost use Rattle.std.specs.Prelude.{◌≡◌, ◌≤◌, true, List, take};
     ghost use Rattle.std.specs.List.{All};
+    ghost use Rattle.state_vector.specs.Tables.{ascends};
     ghost use Rattle.message.specs.Presence.{Entry};
     ghost use Rattle.message.specs.Writing.{Readable};
 
     ghost Value = { List Entry };
 
-    ghost view = { λ u. u.table };
+    ghost view = { λ u. take u.len u.entries };
 
-    ghost invariant = { λ u. All Readable u.table };
+    ghost invariant = { λ u. (u.len ≤ 64) × (ascends (λ e. e.client) (take u.len u.entries) ≡ true) × All Readable (take u.len u.entries) };
 }
 
 impl PresenceUpdate {
@@ -165,8 +166,14 @@ impl PresenceUpdate {
     pub fn new() -> PresenceUpdate
         ensures { result ≡ [] }
     {
+        let none = Presence {
+            client: 0,
+            clock: 0,
+            state: None,
+        };
         PresenceUpdate {
-            table: Table::new(),
+            entries: [none; MAX_ENTRIES],
+            len: 0,
         }
     }
 
@@ -177,7 +184,8 @@ impl PresenceUpdate {
         ensures ascends { ascends (λ e. e.client) result.now ≡ true }
         ensures readable { All Readable result.now }
     {
-        self.table.entries()
+        let all = &self.entries[..];
+        &all[0..self.len]
     }
 
     // Puts an entry in, in the place of an earlier one of its client; a 65th client is refused with nothing changed.
@@ -187,7 +195,18 @@ impl PresenceUpdate {
     {
         // a look at a field brings in what is true of every entry
         let _passed = &e.client;
-        self.table.put(e)?;
-        Ok(())
+        let at = find(self.entries(), e.client());
+        match at {
+            Ok(at) => {
+                replace(&mut self.entries, self.len, at, e);
+                Ok(())
+            }
+            Err(at) if self.len < MAX_ENTRIES => {
+                insert(&mut self.entries, self.len, at, e);
+                self.len += 1;
+                Ok(())
+            }
+            Err(_) => Err(WireFault::TooManyEntries),
+        }
     }
 }

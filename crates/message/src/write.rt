@@ -12,7 +12,7 @@ use encoding::entries_out::{Chosen, Entry};
 use encoding::fault::WireFault;
 use encoding::read::check_text;
 use encoding::sink::{BufferTooShort, Counter, Filler, Sink};
-use encoding::write::{WriteFault, spelling, write_buf, write_var};
+use encoding::write::{WriteFault, write_buf, write_var};
 use state_vector::keyed::Keyed;
 use state_vector::vector::StateVector;
 
@@ -73,6 +73,14 @@ fn put_led_entries<E: Entry, S: Sink>(
     Chosen::all(entries).write_buf(sink)
 }
 
+// A tag, then a buffer; most tags are one byte, which is put as it is.
+fn put_custom<S: Sink>(sink: &mut S, tag: u8, part: &[u8]) -> Result<(), BufferTooShort>
+    ensures { Sent S.Sink.room S.Sink.step sink.old (led (shortest tag) (buffer_out part.now)) result sink.new }
+{
+    write_var(sink, tag)?;
+    write_buf(sink, part)
+}
+
 impl Outgoing for StateVector {
     ghost told = { step1 };
 
@@ -122,7 +130,7 @@ impl Outgoing for Draft<'_> {
             Draft::AuthDenied(reason) => put_led(sink, &[MSG_AUTH, PERMISSION_DENIED], reason),
             Draft::AuthGranted => sink.put_all(&[MSG_AUTH, PERMISSION_GRANTED]),
             Draft::AwarenessQuery => sink.put_all(&[MSG_QUERY_AWARENESS]),
-            Draft::Custom(tag, part) => put_led(sink, spelling(u64::from(tag)).as_slice(), part),
+            Draft::Custom(tag, part) => put_custom(sink, tag, part),
         }
     }
 }
