@@ -1,7 +1,16 @@
 -- How counts are spelt, and what they owe for the laws of tables. It lies here since the law of a host cites it.
-use Rattle.std.specs.Prelude.{◌≡◌, ℕ, ◌-◌, ◌^◌, ◌<◌, ◌≤◌, true, false, ◌&&◌, List, length, ◌++◌, Some, None, Ok, Option, unwrap_or, nat_lt, refl}
-use Rattle.std.proofs.Common.{ap, ◌∙◌, subst, rules, arith, length-append}
-use Rattle.std.proofs.lemmas.Bool.{ltb-true, ltb-false, le-ltb, and_parts}
+--   exact_counts   updates are read exactly where the bytes spell them
+--   parts, kept_if, dropped_if   what a count has that may be held, which ones may, and which may not
+--   count_back, counts_back   a count and an update's counts read back as they were written
+--   counts_order, counts_decided   which stands above which is an order, and decides unless they are equal
+--   count_fair     what counts owe for the laws of tables
+--   counts_are     what is written of counts spells them
+--   counts_lawful  boards of counts keep the laws of documents
+--   board_within   a board of at most 64 counts is within the limit
+use Rattle.std.specs.Prelude.{◌≡◌, ℕ, ◌-◌, ◌^◌, ◌<◌, ◌≤◌, true, false, ◌&&◌, List, length, take, ◌++◌, Some, None, Ok, Option, unwrap_or, nat_lt, refl}
+use Rattle.std.proofs.Common.{sym, ap, ◌∙◌, subst, rules, arith, length-append, length-take}
+use Rattle.std.proofs.Math.Nat.{le_trans, min-le_left}
+use Rattle.std.proofs.lemmas.Bool.{ltb-true, ltb-false, lt-ltb, le-ltb, and_parts, and_from, and_right}
 use Rattle.std.specs.List.{list_all}
 use Rattle.encoding.specs.Spelling.{Exactly, NumberIs, ClientIs}
 use Rattle.encoding.specs.Writing.{shortest, counted_out}
@@ -11,11 +20,13 @@ use Rattle.encoding.proofs.Shortest.{length_shortest}
 use Rattle.document.specs.Kind.{Lawful}
 use Rattle.state_vector.specs.Tables.{Order}
 use Rattle.state_vector.specs.Vector.{clock_of}
-use Rattle.joined_tables.specs.Joined.{Decided, HeldOff}
+use Rattle.joined_tables.specs.Joined.{Decided, HeldOff, sound}
 use Rattle.joined_tables.specs.TableKind.{Fair, clock_held}
-use Rattle.joined_tables.proofs.TableLaws.{rows_spelt, tables_lawful}
+use Rattle.joined_tables.specs.Whole.{wholly}
+use Rattle.joined_tables.proofs.TableHosts.{table_within}
+use Rattle.joined_tables.proofs.TableLaws.{rows_back, rows_spelt, tables_lawful}
 use Rattle.boards.specs.declared.count.Count.{Count}
-use Rattle.boards.specs.CountBoard.{client_of, outranks, keepable, count_in, count_out, count_rows, counts, counts_in, CountIs, CountsAre}
+use Rattle.boards.specs.CountBoard.{client_of, outranks, keepable, count_in, count_out, count_rows, board, counts, counts_in, CountIs, CountsAre}
 
 -- a count is read exactly where the bytes spell it
 exact_count_entry : Exactly count_in CountIs
@@ -37,7 +48,14 @@ parts e f =
     let r = and_parts (nat_lt 0 e.count) (nat_lt e.count (2 ^ 32)) q.1 in
     (ltb-true _ _ q.0, ltb-true _ _ r.0, ltb-true _ _ r.1)
 
--- what is written of it spells it
+-- a count that may be held, and one that may not
+pub kept_if : (e : Count) → e.client < 2 ^ 53 → 0 < e.count → e.count < 2 ^ 32 → keepable e ≡ true
+kept_if e known some narrow = and_from _ _ (lt-ltb _ _ known) (and_from _ _ (lt-ltb _ _ some) (lt-ltb _ _ narrow))
+
+pub dropped_if : (e : Count) → e.count ≡ 0 → keepable e ≡ false
+dropped_if e none = ap (λ n. keepable (record { client = e.client; count = n })) none ∙ and_right _ _ refl
+
+-- what is written of a count that may be held spells it
 count_is : (e : Count) → keepable e ≡ true → CountIs e (count_out e)
 count_is e f = let p = parts e f in (shortest e.client, shortest e.count, refl, client_is e.client p.0, number_is (2 ^ 32 - 1) e.count (omega arith) (omega arith))
 
@@ -78,6 +96,14 @@ count_fair = record {
 pub counts_are : (es : List Count) → length es ≤ 64 → list_all keepable es ≡ true → CountsAre es (counted_out count_out es)
 counts_are = rows_spelt count_rows count_fair exact_counts
 
+-- counts that are written read back
+pub counts_back : (es : List Count) → length es ≤ 64 → list_all keepable es ≡ true → wholly (counts_in (counted_out count_out es)) ≡ Ok es
+counts_back = rows_back count_rows count_fair
+
 -- boards of counts keep the laws of documents
 pub counts_lawful : Lawful counts 64
 counts_lawful = tables_lawful count_rows count_fair 64 (omega arith)
+
+-- a board with at most 64 counts is within the limit
+pub board_within : (len : ℕ) (xs : List Count) → len ≤ 64 → sound client_of keepable (take len xs) ≡ true → length (board (take len xs)).0 ≤ 64
+board_within len xs few s = table_within count_rows 64 (take len xs) (le_trans (subst (λ n. n ≤ len) (sym (length-take len xs)) (min-le_left len (length xs))) few) s

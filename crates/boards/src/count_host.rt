@@ -1,7 +1,7 @@
 // The count board as a host of documents.
-ghost use Rattle.joined_tables.proofs.TableHosts.{table_within};
-ghost use Rattle.boards.specs.CountBoard.{count_rows, counts, board};
-ghost use Rattle.boards.specs.Counts.{counts_lawful};
+ghost use Rattle.std.specs.Prelude.{take};
+ghost use Rattle.boards.specs.CountBoard.{counts, board};
+ghost use Rattle.boards.specs.Counts.{counts_lawful, board_within};
 
 use crate::count::Count;
 use crate::count_board::CountBoard;
@@ -21,11 +21,11 @@ impl DocumentHost for CountBoard {
 
     ghost kind = { counts };
 
-    ghost document = { λ b. board b.counts };
+    ghost document = { λ b. board (take b.len b.counts) };
 
     ghost lawful = { counts_lawful };
 
-    ghost within = { λ h. table_within count_rows 64 h.counts h.few h.sound };
+    ghost within = { λ h. board_within h.len h.counts h.few h.sound };
 
     fn new() -> CountBoard {
         CountBoard::empty()

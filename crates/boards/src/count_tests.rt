@@ -90,3 +90,15 @@ fn refuses_a_65th_client(rt: HostRuntime) -> Result<(), Fail> {
     assert_eq!(rt; board.vector().get(5), Some(9));
     Ok(())
 }
+
+// A board is copied by value: what it takes afterwards, the copy does not.
+#[test]
+fn is_copied(rt: HostRuntime) -> Result<(), Fail> {
+    let mut board = CountBoard::new();
+    board.take(b"\x01\x05\x02")?;
+    let held = board;
+    board.take(b"\x01\x05\x09")?;
+    assert_eq!(rt; held.vector().entries(), knows(5, 2)?.entries());
+    assert_eq!(rt; board.vector().entries(), knows(5, 9)?.entries());
+    Ok(())
+}

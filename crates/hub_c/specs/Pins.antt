@@ -36,7 +36,7 @@ use Rattle.hub_c.specs.declared.told.HubRecord.{HubRecord}
 
 -- what a hub that ships means
 abbrev pub means : ProductHub → Hub counts
-means h = hub_of counts h.presence (board h.host.host.counts)
+means h = hub_of counts h.presence (board (take h.host.host.len h.host.host.counts))
 
 -- its clock's next reading, and what a reading leads to
 abbrev pub next : SetClock → ℕ
@@ -142,10 +142,10 @@ pub record Listed (hub : ProductHub) (clients old new : List ℕ) (r : Result �
 
 -- the document's vector as a step 1 message
 pub record Asked (hub : ProductHub) (old new : List ℕ) (r : Result ℕ Refusal) : Type 0 where
-  pub written : Put old (sent (message_out (step1 (counts.vector (board hub.host.host.counts))))) r new
+  pub written : Put old (sent (message_out (step1 (counts.vector (board (take hub.host.host.len hub.host.host.counts)))))) r new
   pub law : Tells hub hub (Call.step1 (length old)) (written_answer r new)
 
 -- and all live records after it
 pub record Started (hub : ProductHub) (old new : List ℕ) (r : Result ℕ Refusal) : Type 0 where
-  pub written : Put old (sent (both (message_out (step1 (counts.vector (board hub.host.host.counts)))) (message_out (awareness (map entry_of (filter live hub.presence.rows)))))) r new
+  pub written : Put old (sent (both (message_out (step1 (counts.vector (board (take hub.host.host.len hub.host.host.counts))))) (message_out (awareness (map entry_of (filter live hub.presence.rows)))))) r new
   pub law : Tells hub hub (Call.start (length old)) (written_answer r new)

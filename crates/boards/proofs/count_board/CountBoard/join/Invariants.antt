@@ -1,4 +1,4 @@
-use Rattle.std.proofs.Common.{◌≡◌, true, is_ok}
+use Rattle.std.proofs.Common.{◌≡◌, true, take, is_ok}
 use Rattle.encoding.specs.Entries.{entries}
 use Rattle.joined_tables.specs.Joined.{gathered}
 use Rattle.joined_tables.specs.Whole.{wholly}
@@ -11,5 +11,5 @@ invariant-loop-e l =
     let due = wholly (entries count_in l.e-iterator.left l.e-iterator.rest.now) in
     record {
       readable : is_ok due ≡ true;
-      same : gathered client_of outranks keepable (board l.self.counts) due ≡ gathered client_of outranks keepable (board l.initial.self.counts) (wholly (entries count_in l.update.left l.update.rest.now));
+      same : gathered client_of outranks keepable (board (take l.self.len l.self.counts)) due ≡ gathered client_of outranks keepable (board (take l.initial.self.len l.initial.self.counts)) (wholly (entries count_in l.update.left l.update.rest.now));
     }

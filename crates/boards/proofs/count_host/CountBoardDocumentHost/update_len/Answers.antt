@@ -1,4 +1,4 @@
-use Rattle.std.proofs.Common.{length, ap, ◌∙◌, arith}
+use Rattle.std.proofs.Common.{length, take, ap, ◌∙◌, arith}
 use Rattle.encoding.specs.Writing.{counted_out}
 use Rattle.joined_tables.proofs.TableHosts.{news_is, news_long}
 use Rattle.boards.specs.CountBoard.{count_out, count_rows}
@@ -10,5 +10,5 @@ unreachable-requires c = omega (arith, c.in-Err.ensures, ap (λ l. length (count
 
 pub returns : goal.returns
 returns c =
-    let same = news_is count_rows c.args.since.now c.args.self.now.counts c.counts.result.now c.counts.ensures.all c.args.self.now.sound in
+    let same = news_is count_rows c.args.since.now (take c.args.self.now.len c.args.self.now.counts) c.counts.result.now c.counts.ensures.all c.args.self.now.sound in
     c.in-Ok.ensures.0 ∙ ap (λ l. length (counted_out count_out l)) (c.by.ensures ∙ same)

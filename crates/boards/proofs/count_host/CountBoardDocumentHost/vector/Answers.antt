@@ -1,4 +1,4 @@
-use Rattle.std.proofs.Common.{map, sym, ap, ◌∙◌}
+use Rattle.std.proofs.Common.{map, take, sym, ap, ◌∙◌}
 use Rattle.joined_tables.proofs.Arriving.{table_is}
 use Rattle.joined_tables.proofs.TableHosts.{vector_ascends, vector_known}
 use Rattle.boards.specs.CountBoard.{client_of, outranks, keepable, as_vector, count_rows}
@@ -12,4 +12,4 @@ pub vector_of-requires-clause-known : goal.vector_of-requires-clause-known
 vector_of-requires-clause-known c = vector_known count_rows count_fair c.counts.result.now c.counts.ensures.sound
 
 pub returns : goal.returns
-returns c = let b = c.args.self.now in c.vector_of.ensures ∙ ap (map as_vector) (c.counts.ensures.all ∙ sym (table_is client_of outranks keepable b.counts b.sound))
+returns c = let b = c.args.self.now in c.vector_of.ensures ∙ ap (map as_vector) (c.counts.ensures.all ∙ sym (table_is client_of outranks keepable (take b.len b.counts) b.sound))
