@@ -1,5 +1,6 @@
 -- How a row of bytes is written. Index:
 --   byte_text     a byte as two upper-case digits
+--   spaced        each byte after a space
 --   written       the whole text
 --   fault_text     a fault in words
 use Rattle.std.specs.Prelude.{ℕ, ◌/◌, ◌%◌, true, List, [], ◌∷◌, ◌++◌, codes, decimal}
@@ -12,10 +13,14 @@ use Rattle.hexadecimal.specs.declared.HexFault.TheVariants.{NotADigit, HalfByte,
 abbrev pub byte_text : ℕ → List ℕ
 byte_text b = digit_glyph true (b / 16) ∷ digit_glyph true (b % 16) ∷ []
 
+-- the bytes, two digits each and a space before each
+abbrev pub spaced : List ℕ → List ℕ
+spaced bs = flat_map (λ c. 32 ∷ byte_text c) bs
+
 -- the text of a row of bytes: two digits each, one space between two bytes
 abbrev pub written : List ℕ → List ℕ
 written [] = []
-written (b ∷ bs) = byte_text b ++ flat_map (λ c. 32 ∷ byte_text c) bs
+written (b ∷ bs) = byte_text b ++ spaced bs
 
 -- a fault in words, with its column
 abbrev pub fault_text : HexFault → List ℕ

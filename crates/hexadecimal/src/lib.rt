@@ -1,14 +1,15 @@
 // Lines of hexadecimal bytes: a reader that tells each fault's column, and a writer.
 #![tactic(auto)]
 
-ghost use Rattle.std.specs.Prelude.{◌≡◌, ℕ, ◌<◌, List, IfOk, Some, Ok, vec_items, string_bytes};
+ghost use Rattle.std.specs.Prelude.{◌≡◌, ℕ, ◌*◌, ◌<◌, ◌≤◌, true, length, List, IfOk, Some, Ok, vec_items, string_bytes};
+ghost use Rattle.std.specs.Fmt.{digit_glyph};
 ghost use Rattle.hexadecimal.specs.declared.HexFault.TheVariants.{Memory};
 ghost use Rattle.hexadecimal.specs.Line.{sign_of, hex_line, Spells, Answered};
-ghost use Rattle.hexadecimal.specs.Text.{fault_text, written};
+ghost use Rattle.hexadecimal.specs.Text.{fault_text, spaced, written};
 
 use std::alloc::{AllocError, AllocFailed, Global};
 use std::error::Error;
-use std::fmt;
+use std::{fmt, str};
 
 pub mod input;
 pub mod lines;
@@ -114,6 +115,30 @@ pub fn parse_line(heap: Global, line: &[u8]) -> Result<Vec<u8>, HexFault>
     }
 }
 
+// The upper-case digit of a value below 16.
+fn digit(d: u8) -> u8
+    requires { d < 16 }
+    ensures { result ≡ digit_glyph true d }
+{
+    if d < 10 { b'0' + d } else { b'A' + (d - 10) }
+}
+
+// How many bytes are spelt at a time.
+const BLOCK: usize = 32;
+
+// Bytes as text, a space and two digits for each, written at the front of a row that the caller lends and that has room.
+fn spell<'t>(bytes: &[u8], text: &'t mut [u8]) -> &'t str
+    requires { 3 * length bytes.now ≤ length text.old }
+    ensures { result.now ≡ spaced bytes.now }
+{
+    for (i, &b) in bytes.iter().enumerate() {
+        text[3 * i] = b' ';
+        text[3 * i + 1] = digit(b / 16);
+        text[3 * i + 2] = digit(b % 16);
+    }
+    str::from_utf8(&text[0..3 * bytes.len()]).unwrap()
+}
+
 // Bytes, printed in upper-case digits with one space between two bytes.
 #[derive(Clone, Copy, Debug)]
 pub struct Hex<'a>(pub &'a [u8]);
@@ -121,17 +146,26 @@ pub struct Hex<'a>(pub &'a [u8]);
 impl fmt::Display for Hex<'_> {
     ghost output = { λ hex. Some (written hex.0.now) };
 
-    // Two digits for each byte, and a space before each byte but the first.
-    #[tactic(auto, using(crate::proofs::Texts::writing))]
+    // Two digits for each byte, and a space before each byte but the first; a block of bytes at a time, which is quicker than each by itself.
     fn fmt<W: fmt::Write>(&self, f: &mut fmt::Formatter<W>) -> fmt::Result {
         if let &[first, ref rest @ ..] = self.0 {
-            write!(f, "{first:02X}")?;
-            for &b in rest {
-                write!(f, " {b:02X}")?;
+            let text = [digit(first / 16), digit(first % 16)];
+            f.write_str(str::from_utf8(&text).unwrap())?;
+            let mut text = [0; 3 * BLOCK];
+            for part in rest.chunks(BLOCK) {
+                f.write_str(spell(part, &mut text))?;
             }
         }
         Ok(())
     }
+}
+
+// What is written of bytes, wherever it is printed, spells these bytes: a law, which does nothing.
+#[tactic(auto, using(crate::proofs::Texts::written_spells))]
+pub fn written_is_spelt(bytes: &[u8])
+    ensures { Spells (written bytes.now) bytes.now }
+{
+    let _bytes = bytes;
 }
 
 // The bytes as text, which reads back as these bytes.
@@ -197,6 +231,19 @@ mod tests {
         assert_eq!(rt;
             format!(in heap; "{fault}")?.as_str(),
             "column 12: half a byte"
+        );
+        Ok(())
+    }
+
+    // More bytes than are spelt at a time.
+    #[test]
+    fn writes_long_lines(rt: HostRuntime) -> Result<(), Fail> {
+        let heap = rt.alloc();
+        let text = write_hex(heap, &[0xf0; 35])?;
+        assert_eq!(rt; text.as_str().len(), 104);
+        assert_eq!(rt;
+            parse_line(heap, text.as_bytes())?.as_slice(),
+            [0xf0; 35].as_slice()
         );
         Ok(())
     }

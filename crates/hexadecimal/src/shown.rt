@@ -28,11 +28,12 @@ impl fmt::Display for Shown<'_> {
         let Ok(text) = std::str::from_utf8(self.0) else {
             return write!(f, "{}", Hex(self.0));
         };
-        for c in text.chars() {
-            if c.is_control() {
+        // a control character stands after each run but the last
+        let mut controls = text.chars().filter(|c| c.is_control());
+        for run in text.split(|c: char| c.is_control()) {
+            f.write_str(run)?;
+            if let Some(c) = controls.next() {
                 write!(f, "{}", c.escape_unicode())?;
-            } else {
-                write!(f, "{c}")?;
             }
         }
         Ok(())

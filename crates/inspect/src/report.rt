@@ -10,7 +10,6 @@ use state_vector::vector::VectorEntry;
 use std::alloc::Global;
 use std::fmt;
 use std::fmt::Write;
-use std::iter::once;
 
 // What is printed of a line, with normal forms if these are asked for.
 #[derive(Drop)]
@@ -56,24 +55,22 @@ impl Report {
     // The messages that bytes hold, with their normal forms if these are asked for, and how they end.
     fn add_bytes(&mut self, bytes: &[u8]) -> anyhow::Result<()> {
         let mut reader = MessageReader::new(bytes);
-        let messages: Vec<Placed> = reader.by_ref().collect(self.heap())?;
-        // a message ends where the next one begins, the last where reading stopped
-        let ends = messages
-            .iter()
-            .skip(1)
-            .map(|p| p.place)
-            .chain(once(reader.place()));
-        for (i, (placed, end)) in messages.iter().zip(ends).enumerate() {
-            let Placed { place, message } = *placed;
-            write!(self.text, "  message {i} at byte {place}: ")?;
+        let mut count = 0;
+        // a message has a byte at least, and ends where reading stopped
+        for number in 0..bytes.len() {
+            let Some(Placed { place, message }) = reader.next() else {
+                break;
+            };
+            write!(self.text, "  message {number} at byte {place}: ")?;
             self.add_message(message)?;
             if self.normal
-                && let Some(received) = bytes.get(place..end)
+                && let Some(received) = bytes.get(place..reader.place())
             {
                 self.add_normal_form(message, received)?;
             }
+            count = number + 1;
         }
-        self.add_end(messages.len(), reader.end(), bytes.len())
+        self.add_end(count, reader.end(), bytes.len())
     }
 
     // A message, with what it holds.
